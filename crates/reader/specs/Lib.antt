@@ -1,0 +1,5 @@
+pub mod Chain
+pub mod Said
+pub mod Views
+pub mod Fields
+pub mod Entries

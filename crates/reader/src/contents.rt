@@ -1,0 +1,41 @@
+// What an accepted plan text says.
+use envelope::Bucket;
+use envelope::Periodic;
+use gates::GateList;
+use gates::TrafficClass;
+
+// The kinds of flow, in their order within a class.
+#[derive(Clone, Copy)]
+pub enum Kind {
+    Bucket,
+    Periodic,
+}
+
+#[derive(Clone, Copy)]
+pub enum Flow {
+    Bucket(Bucket),
+    Periodic(Periodic),
+}
+
+// A flow of a class.
+#[derive(Clone, Copy)]
+pub struct FlowLine {
+    pub class: u8,
+    pub flow: Flow,
+}
+
+// The class and the kind of a flow: its place in the order of flow lines.
+#[derive(Clone, Copy)]
+pub struct Place {
+    pub class: u8,
+    pub kind: Kind,
+}
+
+// The class c is `classes[c]`, and the flows stand in the order of the text.
+#[derive(Drop)]
+pub struct Contents {
+    pub port: u16,
+    pub gates: GateList,
+    pub classes: [TrafficClass; 8],
+    pub flows: Vec<FlowLine>,
+}

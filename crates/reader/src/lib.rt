@@ -1,0 +1,8 @@
+// From a plan text to what it says: the lines in their order, each field with its form and range.
+mod contents;
+mod fields;
+mod reader;
+
+pub use contents::Contents;
+pub use contents::Flow;
+pub use contents::FlowLine;
