@@ -59,6 +59,15 @@ pub impl From<LineFault> for PlanFault as PlanFromLine {
     }
 }
 
+// A field's fault goes up by way of the line.
+pub impl From<FieldFault> for PlanFault as PlanFromField {
+    ghost converts = { λ e r. r ≡ Line (Field e) };
+
+    fn from(fault: FieldFault) -> PlanFault {
+        PlanFault::Line(LineFault::Field(fault))
+    }
+}
+
 pub impl From<AllocError> for PlanFault as PlanFromAlloc {
     ghost converts = { λ _ r. r ≡ Memory };
 

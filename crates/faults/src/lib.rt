@@ -13,6 +13,7 @@ pub use fault::PlanFault;
 pub use fault::PlanFaultDebug;
 pub use fault::PlanFaultPartialEq;
 pub use fault::PlanFromAlloc;
+pub use fault::PlanFromField;
 pub use fault::PlanFromLine;
 pub use fault::PlanFromRefused;
 pub use layer::Layer;

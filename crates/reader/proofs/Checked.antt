@@ -1,7 +1,7 @@
 -- The checks of lines and fields, by their outcomes.
 use mathlib.Core.Path.{_≡_, refl, sym, ap, _∙_}
 use mathlib.Core.Bool.{true, false, cond, _&&_}
-use mathlib.Core.List.{List, [], _∷_}
+use mathlib.Core.List.{List, [], _∷_, map}
 use Prim.Native.Nat.{ℕ, zero, suc, _+_, _-_, _<_, _≤_}
 use mathlib.Core.Logic.{⊎-elim}
 use native.Mathlib.Omega.{arith}
@@ -24,7 +24,7 @@ use Rattle.gates.specs.Sizes.{Sized}
 use Rattle.text.specs.Cuts.{before}
 use Rattle.text.proofs.Cutting.{shorter, longer}
 use Rattle.reader.specs.Chain.{andThen, told}
-use Rattle.reader.specs.Said.{ClassEntry}
+use Rattle.reader.specs.Said.{ClassEntry, largestOf}
 use Rattle.reader.specs.Views.{sizesOf}
 use Rattle.reader.specs.Entries.{lineAt}
 use Rattle.reader.specs.Fields.{ranged, roomMost, lettersFrom, gatesIn}
@@ -147,3 +147,9 @@ sized-is k m d (Some t) most least is =
     let b : t .depth .0 ≡ d = ap (λ b. b .0) (is .1) in
     let s : Sized m d = record { most = most; least = least; room = omega (arith, t .room); deep = omega (arith, t .deep); silent = λ z. omega (arith, t .silent (omega arith)) } in
     (λ i. Ok (sizesWith (a i) (b i))) ∙ ap (λ r. andThen r (λ n. Ok (sizesWith m n))) (in-range k m (roomMost m) d (s .room) (room-in m d s))
+
+-- the largest frame of a class that is read from the list of classes
+pub largest-at : (ts : List TrafficClass) (c : ℕ) (t : TrafficClass) → c < length ts → t ≡ getD ts c t → t .largest .0 ≡ largestOf (map sizesOf ts) c
+largest-at [] c t h e = absurd (omega arith)
+largest-at (x ∷ ts) zero t h e = ap (λ y. y .largest .0) e
+largest-at (x ∷ ts) (suc c) t h e = largest-at ts c t (omega arith) e

@@ -3,3 +3,5 @@ pub mod Said
 pub mod Views
 pub mod Fields
 pub mod Entries
+pub mod Reading
+pub mod Parsed

@@ -5,6 +5,9 @@ use Rattle.gates.specs.declared.traffic_class.TrafficClass.{TrafficClass}
 use Rattle.reader.specs.declared.contents.Flow.the-variants as code
 use Rattle.reader.specs.declared.contents.Flow.{Flow as CodeFlow}
 use Rattle.reader.specs.declared.contents.FlowLine.{FlowLine}
+use Rattle.reader.specs.declared.contents.Kind.{Kind}
+use Rattle.reader.specs.declared.contents.Kind.the-variants as kind
+use Rattle.reader.specs.declared.contents.Place.{Place}
 use Rattle.reader.specs.Said.{Flow, bucket, periodic, FlowEntry, ClassEntry}
 
 abbrev pub bucketOf : Bucket → Flow
@@ -19,6 +22,17 @@ flowOf (code.Periodic p) = periodicOf p
 
 abbrev pub entryOf : FlowLine → FlowEntry
 entryOf f = record { class = f .class; flow = flowOf (f .flow) }
+
+-- the kind of a flow, and its place in the order of flow lines
+abbrev pub kindOf : Flow → Kind
+kindOf (bucket burst num den) = kind.Bucket
+kindOf (periodic bytes period jitter) = kind.Periodic
+
+abbrev pub entryPlace : FlowEntry → Place
+entryPlace f = record { class = f .class; kind = kindOf (f .flow) }
+
+abbrev pub placeOf : FlowLine → Place
+placeOf f = entryPlace (entryOf f)
 
 abbrev pub sizesOf : TrafficClass → ClassEntry
 sizesOf t = record { largest = t .largest .0; depth = t .depth .0 }

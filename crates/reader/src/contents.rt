@@ -1,4 +1,6 @@
 // What an accepted plan text says.
+ghost use mathlib.Core.Path.{_≡_};
+ghost use Rattle.reader.specs.Views.{placeOf};
 use envelope::Bucket;
 use envelope::Periodic;
 use gates::GateList;
@@ -22,6 +24,18 @@ pub enum Flow {
 pub struct FlowLine {
     pub class: u8,
     pub flow: Flow,
+}
+
+impl FlowLine {
+    // Where the flow stands in the order of flow lines.
+    pub(crate) fn place(self) -> Place
+        ensures { λ r. ⌜ r ≡ placeOf self ⌝ }
+    {
+        match self.flow {
+            Flow::Bucket(_) => Place { class: self.class, kind: Kind::Bucket },
+            Flow::Periodic(_) => Place { class: self.class, kind: Kind::Periodic },
+        }
+    }
 }
 
 // The class and the kind of a flow: its place in the order of flow lines.

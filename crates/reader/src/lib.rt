@@ -1,6 +1,8 @@
 // From a plan text to what it says: the lines in their order, each field with its form and range.
 mod contents;
+mod entries;
 mod fields;
+mod lists;
 mod reader;
 
 pub use contents::Contents;

@@ -6,7 +6,7 @@ pub const CLASSES: usize = 8;
 // A plan text has at most this many bytes.
 pub const MAX_TEXT: usize = 8_192;
 
-pub const MAX_PORT: u32 = 65_535;
+pub const MAX_PORT: u64 = 65_535;
 
 // A gate list has at most this many lines, and its cycle at most this many ticks.
 pub const MAX_GATE_LINES: usize = 64;
