@@ -52,23 +52,24 @@ drop-set [] i x h = absurd (omega arith)
 drop-set (y ∷ ys) zero x h = refl
 drop-set (y ∷ ys) (suc i) x h = drop-set ys i x (omega arith)
 
+-- one place more, where i places from the end are written
+pub put-front : {X : Type 0} (xs : List X) (i : ℕ) (x : X) → length xs ≡ 8 → i < 8 → drop (8 - (i + 1)) (set xs (7 - i) x) ≡ x ∷ drop (8 - i) xs
+put-front xs i x eight h =
+    let a : 8 - (i + 1) ≡ 7 - i = omega arith in
+    let b : suc (7 - i) ≡ 8 - i = omega arith in
+    ap (λ j. drop j (set xs (7 - i) x)) a ∙ drop-set xs (7 - i) x (omega arith) ∙ ap (λ j. x ∷ drop j xs) b
+
 -- one letter more: i letters are read, and the gates from 8 - i on are theirs
 module _ (gs : List Gate) (xs : List ℕ) (i : ℕ) (eight : length gs ≡ 8) (h : i < length xs) (l : i < 8) where
-  letter-put : (g : Gate) → drop (8 - (i + 1)) (set gs (7 - i) g) ≡ g ∷ drop (8 - i) gs
-  letter-put g =
-      let a : 8 - (i + 1) ≡ 7 - i = omega arith in
-      let b : suc (7 - i) ≡ 8 - i = omega arith in
-      ap (λ j. drop j (set gs (7 - i) g)) a ∙ drop-set gs (7 - i) g (omega arith) ∙ ap (λ j. g ∷ drop j gs) b
-
   pub letter-open : getD xs i 0 ≡ 79 → lettersFrom (drop (8 - i) gs) (drop i xs) ≡ lettersFrom (drop (8 - (i + 1)) (set gs (7 - i) Open)) (drop (i + 1) xs)
   unfolding lettersFrom
-  letter-open e = at-drop-more (lettersFrom (drop (8 - i) gs)) xs i 0 h ∙ cond-true _ _ _ (eq-eqb _ _ e) ∙ ap (λ l. lettersFrom l (drop (i + 1) xs)) (sym (letter-put Open))
+  letter-open e = at-drop-more (lettersFrom (drop (8 - i) gs)) xs i 0 h ∙ cond-true _ _ _ (eq-eqb _ _ e) ∙ ap (λ r. lettersFrom r (drop (i + 1) xs)) (sym (put-front gs i Open eight l))
 
   pub letter-shut : getD xs i 0 ≡ 67 → lettersFrom (drop (8 - i) gs) (drop i xs) ≡ lettersFrom (drop (8 - (i + 1)) (set gs (7 - i) Shut)) (drop (i + 1) xs)
   unfolding lettersFrom
   letter-shut e =
       at-drop-more (lettersFrom (drop (8 - i) gs)) xs i 0 h ∙ cond-false _ _ _ (ne-eqb (getD xs i 0) 79 (λ f. omega arith)) ∙ cond-true _ _ _ (eq-eqb _ _ e)
-    ∙ ap (λ l. lettersFrom l (drop (i + 1) xs)) (sym (letter-put Shut))
+    ∙ ap (λ r. lettersFrom r (drop (i + 1) xs)) (sym (put-front gs i Shut eight l))
 
 pub letter-other : (gs : List Gate) (xs : List ℕ) (i : ℕ) → i < length xs → (getD xs i 0 ≡ 79 → ⊥) → (getD xs i 0 ≡ 67 → ⊥) → lettersFrom gs (drop i xs) ≡ None
 unfolding lettersFrom

@@ -1,4 +1,7 @@
 -- What the values that the reader makes say, in plain numbers. Assumes nothing.
+use Prim.Native.Nat.{_≤_}
+use Rattle.units.specs.Limits.{cycle-most}
+use Rattle.gates.specs.declared.gate_line.GateLine.{GateLine}
 use Rattle.envelope.specs.declared.bucket.Bucket.{Bucket}
 use Rattle.envelope.specs.declared.periodic.Periodic.{Periodic}
 use Rattle.gates.specs.declared.traffic_class.TrafficClass.{TrafficClass}
@@ -36,3 +39,7 @@ placeOf f = entryPlace (entryOf f)
 
 abbrev pub sizesOf : TrafficClass → ClassEntry
 sizesOf t = record { largest = t .largest .0; depth = t .depth .0 }
+
+-- a gate line with a length that a line may have
+abbrev pub Long : GateLine → Type 0
+Long g = (1 ≤ g .length .0) × (g .length .0 ≤ cycle-most)

@@ -8,7 +8,7 @@ ghost use Rattle.std.specs.Vec.{made};
 ghost use Rattle.text.specs.Cuts.{past};
 ghost use Rattle.reader.specs.Chain.{told};
 ghost use Rattle.reader.specs.Entries.{numberLine, gateLine, classLine, flowLine, kindAfter};
-ghost use Rattle.reader.specs.Views.{sizesOf, entryOf};
+ghost use Rattle.reader.specs.Views.{sizesOf, entryOf, Long};
 use crate::contents::FlowLine;
 use crate::contents::Kind;
 use crate::contents::Place;
@@ -41,7 +41,7 @@ impl Reader<'_> {
     pub(crate) fn gate_line(&mut self) -> Result<GateLine, LineFault>
         requires { ⌜ now self .line < 1000 ⌝ }
         ensures value { λ r. ⌜ r ≡ gateLine (now (self .entry) .line) (now (now (self .entry) .rest)) ⌝ }
-        ensures bound { λ r. ⌜ made r (λ g. (1 ≤ g .length .0) × (g .length .0 ≤ 500000)) ⌝ }
+        ensures bound { λ r. ⌜ made r Long ⌝ }
         ensures rest { λ _. ⌜ now (now (self .exit) .rest) ≡ past 10 (now (now (self .entry) .rest)) ⌝ }
         ensures line { λ _. ⌜ now (self .exit) .line ≡ now (self .entry) .line + 1 ⌝ }
     {

@@ -5,7 +5,7 @@ ghost use Rattle.std.specs.Vec.{made};
 ghost use Rattle.text.specs.Cuts.{before, past};
 ghost use Rattle.reader.specs.Chain.{told};
 ghost use Rattle.reader.specs.Fields.{numeralField, numberField, largestField, gatesIn, kindIn, gateIn, sizesIn, bucketIn, periodicIn, flowIn};
-ghost use Rattle.reader.specs.Views.{sizesOf, flowOf};
+ghost use Rattle.reader.specs.Views.{sizesOf, flowOf, Long};
 use crate::contents::Flow;
 use crate::contents::Kind;
 use crate::reader::Reader;
@@ -80,7 +80,7 @@ impl Reader<'_> {
     // A gate line: its length and its gates.
     pub(crate) fn gate(&mut self) -> Result<GateLine, FieldFault>
         ensures value { λ r. ⌜ r ≡ gateIn (now (self .entry) .line) (now (now (self .entry) .rest)) ⌝ }
-        ensures bound { λ r. ⌜ made r (λ g. (1 ≤ g .length .0) × (g .length .0 ≤ 500000)) ⌝ }
+        ensures bound { λ r. ⌜ made r Long ⌝ }
     {
         let length = Ticks(self.number(1, MAX_CYCLE)?);
         let gates = read_gates(self.piece(b','), self.line)?;

@@ -4,7 +4,9 @@ mod entries;
 mod fields;
 mod lists;
 mod reader;
+mod whole;
 
 pub use contents::Contents;
 pub use contents::Flow;
 pub use contents::FlowLine;
+pub use whole::parse;

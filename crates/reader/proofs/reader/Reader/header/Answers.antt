@@ -1,4 +1,5 @@
 use borrow.Author.Needs.{needs}
+use Rattle.reader.specs.Chain.{skip}
 use Rattle.reader.specs.Reading.{headerIn}
 use Rattle.reader.proofs.reader.Reader.header.Needs as need
 
@@ -15,5 +16,5 @@ unfolding headerIn
 returns-in-Break-gates c = search needs
 
 pub returns : need.returns
-unfolding headerIn
+unfolding headerIn skip
 returns c = search needs
