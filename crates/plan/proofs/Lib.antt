@@ -1,0 +1,3 @@
+pub mod Grouping
+pub mod Sorting
+pub mod Outcomes

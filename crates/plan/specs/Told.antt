@@ -1,0 +1,11 @@
+-- What a plan says. Assumes nothing.
+use mathlib.Core.List.{map}
+use Rattle.std.specs.Of.Vec.{vec-items}
+use Rattle.reader.specs.Parsed.{linesOf}
+use Rattle.reader.specs.Said.{Said}
+use Rattle.reader.specs.Views.{sizesOf}
+use Rattle.plan.specs.declared.plan.Plan.{Plan}
+use Rattle.plan.specs.ByClass.{entriesDown}
+
+abbrev pub told : Plan → Said
+told p = record { port = p .port; cycle = p .gates .cycle .0; gates = linesOf (p .gates); classes = map sizesOf (p .classes); flows = entriesDown 7 (vec-items (p .flows)) }
