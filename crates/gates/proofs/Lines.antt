@@ -3,7 +3,7 @@ use mathlib.Core.Path.{_≡_, refl, sym, ap, subst, _∙_}
 use mathlib.Core.Bool.{Bool, true, false, cond}
 use mathlib.Core.List.{List, [], _∷_}
 use Prim.Native.Nat.{ℕ, zero, suc, _+_, _-_, _*_, _%_, _≤_, _<_}
-use native.Mathlib.Nat.{mod-eq-of-lt, add-mul-mod-self-right}
+use native.Mathlib.Nat.{add-mul-mod-self-right}
 use native.Mathlib.Numerals.{add-one}
 use native.Mathlib.Omega.{arith}
 use lib.Dec.{ltb}
@@ -12,7 +12,7 @@ use Rattle.std.specs.Orderings.{Decides}
 use Rattle.std.proofs.shelf.Lists.{at-drop-more, at-drop-all}
 use Rattle.std.proofs.shelf.Tests.{lt-ltb, le-ltb, cond-true, cond-false}
 use Rattle.gates.specs.declared.gate_line.GateLine.{GateLine}
-use Rattle.gates.specs.Opened.{total, shows, within, opened, start, line, shut-line, Lawful, Repeats, Steady}
+use Rattle.gates.specs.Opened.{total, shows, within, opened, start, line, shut-line, Within, Lawful}
 
 -- where one line ends the next begins
 pub start-next : (ls : List GateLine) (i : ℕ) → i < length ls → start ls (suc i) ≡ start ls i + line ls i .length .0
@@ -73,17 +73,17 @@ within-at (l ∷ ls) k (suc i) t lt a b =
     cond-false (ltb t (l .length .0)) (shows l k) (within ls k (t - l .length .0)) (le-ltb t (l .length .0) (omega arith))
     ∙ within-at ls k i (t - l .length .0) (omega arith) (omega arith) (omega arith)
 
-pub repeats : Repeats
+-- any number of cycles later the gates stand as they do now
+pub repeats : (ls : List GateLine) (k t n cycle : ℕ) → total ls ≡ cycle → opened ls k (t + n * cycle) ≡ opened ls k t
 unfolding opened
-repeats ls k t n = ap (within ls k) (add-mul-mod-self-right t n (total ls))
+repeats ls k t n cycle e = (λ i. within ls k ((t + n * cycle) % e i)) ∙ ap (within ls k) (add-mul-mod-self-right t n cycle) ∙ (λ i. within ls k (t % sym e i))
 
-pub steady : Steady
+-- at each tick of a line, in any cycle, the gates stand as the line says
+pub steady : (ls : List GateLine) (k i t cycle : ℕ) → total ls ≡ cycle → Within ls i (t % cycle) → opened ls k t ≡ shows (line ls i) k
 unfolding opened
-steady ls k i t n lt a b =
-    let s = start-next ls i lt in
-    let m = start-most ls (suc i) in
-    let e : t % total ls ≡ t = mod-eq-of-lt (omega arith) in
-    ap (within ls k) (add-mul-mod-self-right t n (total ls) ∙ e) ∙ within-at ls k i t lt a (omega arith)
+steady ls k i t cycle e w =
+    let s = start-next ls i (w .there) in
+    (λ j. within ls k (t % e j)) ∙ within-at ls k i (t % cycle) (w .there) (w .begun) (omega (arith, w .ends))
 
 -- the shut list is a gate list
 one : (i : ℕ) → i < 1 → 0 ≡ i

@@ -2,7 +2,7 @@
 use mathlib.Core.Bool.{Bool, true, false, cond}
 use mathlib.Core.List.{List, [], _∷_}
 use mathlib.Core.Path.{_≡_}
-use Prim.Native.Nat.{ℕ, suc, _+_, _-_, _*_, _%_, _≤_, _<_}
+use Prim.Native.Nat.{ℕ, suc, _+_, _-_, _%_, _≤_, _<_}
 use lib.Dec.{ltb}
 use lib.ListN.{length, getD, take, replicate}
 use Rattle.units.specs.Limits.{classes, lines-most, cycle-most}
@@ -41,6 +41,12 @@ start ls i = total (take i ls)
 abbrev pub line : List GateLine → ℕ → GateLine
 line ls i = getD ls i (record { length = record { 0 = 0 }; gates = [] })
 
+-- the tick t of the first cycle lies in the line i
+pub record Within (ls : List GateLine) (i t : ℕ) : Type 0 where
+  pub there : i < length ls
+  pub begun : start ls i ≤ t
+  pub ends : t < start ls (suc i)
+
 -- one tick with every class shut
 abbrev pub shut-line : GateLine
 shut-line = record { length = record { 0 = 1 }; gates = replicate classes Shut }
@@ -52,11 +58,3 @@ pub record Lawful (ls : List GateLine) (cycle : ℕ) : Type 0 where
   pub some : 1 ≤ length ls
   pub few : length ls ≤ lines-most
   pub most : cycle ≤ cycle-most
-
--- any number of cycles later the gates stand as they do now
-abbrev pub Repeats : Type 0
-Repeats = (ls : List GateLine) (k t n : ℕ) → opened ls k (t + n * total ls) ≡ opened ls k t
-
--- at each tick of a line, in any cycle, the gates stand as the line says
-abbrev pub Steady : Type 0
-Steady = (ls : List GateLine) (k i t n : ℕ) → i < length ls → start ls i ≤ t → t < start ls (suc i) → opened ls k (t + n * total ls) ≡ shows (line ls i) k

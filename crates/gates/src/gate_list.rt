@@ -1,14 +1,14 @@
 // The gate list of a port: its lines follow one another and repeat with the cycle.
 ghost use mathlib.Core.Path.{_≡_};
 ghost use mathlib.Core.List.{[], _∷_};
-ghost use Prim.Native.Nat.{ℕ, _+_, _*_, _<_, _≤_};
+ghost use Prim.Native.Nat.{ℕ, _+_, _*_, _%_, _<_, _≤_};
 ghost use lib.ListN.{length};
 ghost use Rattle.std.specs.Of.Vec.{vec-items};
 ghost use Rattle.std.specs.Options.{Cases as BySome};
 ghost use Rattle.std.specs.Vec.{made};
 ghost use Rattle.std.specs.Orderings.{Decides};
 ghost use Rattle.units.specs.Limits.{lines-most, cycle-most};
-ghost use Rattle.gates.specs.Opened.{total, line, opened, Lawful, shut-line};
+ghost use Rattle.gates.specs.Opened.{total, line, shows, within, opened, Within, Lawful, shut-line};
 use crate::gate_line::Gate;
 use crate::gate_line::GateLine;
 use std::alloc::AllocError;
@@ -60,19 +60,29 @@ impl GateList {
         self.lines.as_slice()
     }
 
-    // Whether the class is open at a tick, counted from where the list first began.
+    // Whether the class is open at a tick, counted from where the list first began. The answer is the same any number of cycles
+    // later, and it is what the line says in which the tick lies.
     pub fn is_open(&self, class: u8, tick: Ticks) -> bool
-        ensures { λ r. ⌜ r ≡ opened (vec-items (now (self .entry) .lines)) class (tick .0) ⌝ }
+        ensures value { λ r. ⌜ r ≡ opened (vec-items (now (self .entry) .lines)) class (tick .0) ⌝ }
+        ensures repeats { λ r. ⌜ ((n : ℕ) → opened (vec-items (now (self .entry) .lines)) class (tick .0 + n * now (self .entry) .cycle .0) ≡ r) ⌝ }
+        ensures steady { λ r. ⌜ ((i : ℕ) → Within (vec-items (now (self .entry) .lines)) i (tick .0 % now (self .entry) .cycle .0) → r ≡ shows (line (vec-items (now (self .entry) .lines)) i) class) ⌝ }
     {
-        let mut left = tick.0 % self.cycle.0;
-        for line in self.lines.as_slice() {
-            if left < line.length.0 {
-                return line.is_open(class);
-            }
-            left -= line.length.0;
-        }
-        false
+        open_at(self.lines(), class, tick.0 % self.cycle.0)
     }
+}
+
+// Whether the class is open at a tick, counted from the beginning of the first line; after the last line it is not.
+fn open_at(lines: &[GateLine], class: u8, tick: u64) -> bool
+    ensures { λ r. ⌜ r ≡ within (now (lines .entry)) class tick ⌝ }
+{
+    let mut left = tick;
+    for line in lines {
+        if left < line.length.0 {
+            return line.is_open(class);
+        }
+        left -= line.length.0;
+    }
+    false
 }
 
 // Whether the lines make a gate list of this cycle.
