@@ -37,6 +37,10 @@ impl Periodic {
         if period.0 < 1 || period.0 > MAX_PERIOD || jitter.0 > MAX_JITTER {
             return Err(Refusal::FlowRange);
         }
-        Ok(Periodic { bytes, period, jitter })
+        Ok(Periodic {
+            bytes,
+            period,
+            jitter,
+        })
     }
 }

@@ -2,9 +2,7 @@
 use Prim.Native.Nat.{ℕ}
 use Rattle.units.specs.declared.refusal.Refusal.{Refusal}
 use Rattle.units.specs.declared.refusal.Refusal.the-variants as refusal
-use Rattle.faults.specs.declared.fault.FieldFault.{FieldFault}
 use Rattle.faults.specs.declared.fault.FieldFault.the-variants.{Form, Range}
-use Rattle.faults.specs.declared.fault.LineFault.{LineFault}
 use Rattle.faults.specs.declared.fault.LineFault.the-variants.{Missing, Key, Field}
 use Rattle.faults.specs.declared.fault.PlanFault.{PlanFault}
 use Rattle.faults.specs.declared.fault.PlanFault.the-variants.{Size, Sum, Order, More, Line, Memory}

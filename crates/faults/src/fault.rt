@@ -110,7 +110,8 @@ impl PlanFault {
             PlanFault::Size | PlanFault::Memory => 0,
             PlanFault::Sum(line) | PlanFault::Order(line) | PlanFault::More(line) => line,
             PlanFault::Line(LineFault::Missing(line) | LineFault::Key(line)) => line,
-            PlanFault::Line(LineFault::Field(FieldFault::Form(line) | FieldFault::Range(line))) => line,
+            PlanFault::Line(LineFault::Field(FieldFault::Form(line) | FieldFault::Range(line))) =>
+                line,
         }
     }
 

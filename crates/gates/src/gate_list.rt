@@ -35,7 +35,11 @@ impl GateList {
     pub fn new(cycle: Ticks, lines: Vec<GateLine>) -> Option<GateList>
         ensures { λ r. ⌜ BySome r (Lawful (vec-items lines) (cycle .0) → ⊥) (λ g. (g .cycle ≡ cycle) × (vec-items (g .lines) ≡ vec-items lines)) ⌝ }
     {
-        if lawful(cycle, lines.as_slice()) { Some(GateList { cycle, lines }) } else { None }
+        if lawful(cycle, lines.as_slice()) {
+            Some(GateList { cycle, lines })
+        } else {
+            None
+        }
     }
 
     // The shut list: one line of one tick, with every class shut. Fails only for want of memory.
@@ -43,8 +47,14 @@ impl GateList {
         ensures { λ r. ⌜ made r (λ g. (g .cycle .0 ≡ 1) × (vec-items (g .lines) ≡ shut-line ∷ [])) ⌝ }
     {
         let mut lines = Vec::new(heap);
-        lines.push(GateLine { length: Ticks(1), gates: [Gate::Shut; 8] })?;
-        Ok(GateList { cycle: Ticks(1), lines })
+        lines.push(GateLine {
+            length: Ticks(1),
+            gates: [Gate::Shut; 8],
+        })?;
+        Ok(GateList {
+            cycle: Ticks(1),
+            lines,
+        })
     }
 
     // The ticks after which the list begins again.

@@ -28,9 +28,17 @@ impl TrafficClass {
         ensures { λ r. ⌜ BySome r (Sized (largest .0) (depth .0) → ⊥) (λ c. (c .largest ≡ largest) × (c .depth ≡ depth)) ⌝ }
     {
         if largest.0 == 0 {
-            return if depth.0 == 0 { Some(TrafficClass { largest, depth }) } else { None };
+            return if depth.0 == 0 {
+                Some(TrafficClass { largest, depth })
+            } else {
+                None
+            };
         }
-        if largest.0 < MIN_FRAME || largest.0 > MAX_FRAME || depth.0 < largest.0 || depth.0 > MAX_DEPTH {
+        if largest.0 < MIN_FRAME
+            || largest.0 > MAX_FRAME
+            || depth.0 < largest.0
+            || depth.0 > MAX_DEPTH
+        {
             return None;
         }
         Some(TrafficClass { largest, depth })
@@ -40,7 +48,10 @@ impl TrafficClass {
     pub fn silent() -> TrafficClass
         ensures { λ r. ⌜ (r .largest .0 ≡ 0) × (r .depth .0 ≡ 0) ⌝ }
     {
-        TrafficClass { largest: Bytes(0), depth: Bytes(0) }
+        TrafficClass {
+            largest: Bytes(0),
+            depth: Bytes(0),
+        }
     }
 
     pub fn largest(&self) -> Bytes

@@ -1,6 +1,6 @@
 -- The flows of a plan by class: how the lists are filled, and what each of them holds.
 use mathlib.Core.Path.{_≡_, refl, sym, ap, _∙_}
-use mathlib.Core.Bool.{Bool, true, false, cond, _&&_}
+use mathlib.Core.Bool.{true, false, _&&_}
 use mathlib.Core.List.{List, [], _∷_, _++_, map}
 use mathlib.Core.Logic.{⊎-elim}
 use Prim.Native.Nat.{ℕ, zero, suc, _+_, _-_, _<_, _≤_}
@@ -8,7 +8,7 @@ use native.Mathlib.Omega.{arith}
 use lib.Dec.{eqb}
 use lib.ListN.{length, getD, take}
 use Rattle.std.specs.Of.Vec.{vec-items}
-use Rattle.std.specs.shelf.Lists.{All, kept-by}
+use Rattle.std.specs.shelf.Lists.{kept-by}
 use Rattle.std.proofs.shelf.Elements.{kept-by-append}
 use Rattle.std.proofs.shelf.Lists.{append-assoc, append-nil, map-append, take-more}
 use Rattle.std.proofs.shelf.Tests.{cases-lt, eq-eqb, ne-eqb, and-left, cond-true, cond-false}
@@ -19,10 +19,10 @@ use Rattle.reader.specs.declared.contents.Flow.the-variants as code
 use Rattle.reader.specs.declared.contents.FlowLine.{FlowLine}
 use Rattle.reader.specs.declared.contents.Kind.{Kind}
 use Rattle.reader.specs.declared.contents.Kind.the-variants as kind
-use Rattle.reader.specs.Said.{FlowEntry, ClassEntry}
+use Rattle.reader.specs.Said.{FlowEntry}
 use Rattle.reader.specs.Views.{flowOf, entryOf, sizesOf}
 use Rattle.plan.specs.declared.class_flows.ClassFlows.{ClassFlows}
-use Rattle.plan.specs.Arranged.{sameKind, ofKind, flowsOf, groups, silent}
+use Rattle.plan.specs.Arranged.{ofKind, flowsOf, groups, silent}
 use Rattle.plan.specs.ByClass.{bucketEntry, periodicEntry, bucketEntries, periodicEntries, entriesIn, entriesDown}
 
 -- one line more of a loop over the flow lines
@@ -65,20 +65,23 @@ other-class c k f h = and-left _ _ (ne-eqb (f .class) c h)
 module _ (c : ℕ) (ls : List FlowLine) (i : ℕ) (l : FlowLine) (h : i < length ls) (at : l ≡ getD ls i l) (bs : List Bucket) (ps : List Periodic) (held : Held c bs ps (map entryOf (take i ls))) where
   pub bucket-more : (b : Bucket) → l .class ≡ c → l .flow ≡ code.Bucket b → Held c (bs ++ b ∷ []) ps (map entryOf (take (i + 1) ls))
   bucket-more b of is =
-      let entry : entryOf l ≡ bucketEntry c b = (λ j. record { class = of j; flow = flowOf (is j) }) in
-      (map-append (bucketEntry c) bs (b ∷ []) ∙ (λ j. held .0 j ++ sym entry j ∷ []) ∙ sym (flows-take c kind.Bucket ls i l h at (ap (ofKind c kind.Bucket) entry ∙ here c)),
-       held .1 ∙ sym (flows-pass c kind.Periodic ls i l h at (ap (ofKind c kind.Periodic) entry ∙ other-kind c)))
+      let entry : entryOf l ≡ bucketEntry c b = (λ j. record { class = of j; flow = flowOf (is j) }) in (
+        map-append (bucketEntry c) bs (b ∷ []) ∙ (λ j. held .0 j ++ sym entry j ∷ []) ∙ sym (flows-take c kind.Bucket ls i l h at (ap (ofKind c kind.Bucket) entry ∙ here c)),
+        held .1 ∙ sym (flows-pass c kind.Periodic ls i l h at (ap (ofKind c kind.Periodic) entry ∙ other-kind c)),
+      )
 
   pub periodic-more : (p : Periodic) → l .class ≡ c → l .flow ≡ code.Periodic p → Held c bs (ps ++ p ∷ []) (map entryOf (take (i + 1) ls))
   periodic-more p of is =
-      let entry : entryOf l ≡ periodicEntry c p = (λ j. record { class = of j; flow = flowOf (is j) }) in
-      (held .0 ∙ sym (flows-pass c kind.Bucket ls i l h at (ap (ofKind c kind.Bucket) entry ∙ other-kind c)),
-       map-append (periodicEntry c) ps (p ∷ []) ∙ (λ j. held .1 j ++ sym entry j ∷ []) ∙ sym (flows-take c kind.Periodic ls i l h at (ap (ofKind c kind.Periodic) entry ∙ here c)))
+      let entry : entryOf l ≡ periodicEntry c p = (λ j. record { class = of j; flow = flowOf (is j) }) in (
+        held .0 ∙ sym (flows-pass c kind.Bucket ls i l h at (ap (ofKind c kind.Bucket) entry ∙ other-kind c)),
+        map-append (periodicEntry c) ps (p ∷ []) ∙ (λ j. held .1 j ++ sym entry j ∷ []) ∙ sym (flows-take c kind.Periodic ls i l h at (ap (ofKind c kind.Periodic) entry ∙ here c)),
+      )
 
   pub other-more : (l .class ≡ c → ⊥) → Held c bs ps (map entryOf (take (i + 1) ls))
-  other-more ne =
-      (held .0 ∙ sym (flows-pass c kind.Bucket ls i l h at (other-class c kind.Bucket (entryOf l) ne)),
-       held .1 ∙ sym (flows-pass c kind.Periodic ls i l h at (other-class c kind.Periodic (entryOf l) ne)))
+  other-more ne = (
+    held .0 ∙ sym (flows-pass c kind.Bucket ls i l h at (other-class c kind.Bucket (entryOf l) ne)),
+    held .1 ∙ sym (flows-pass c kind.Periodic ls i l h at (other-class c kind.Periodic (entryOf l) ne)),
+  )
 
 -- one class more: it stands behind those above it
 entries-push : (c : ℕ) (fs : List ClassFlows) (f : ClassFlows) → entriesDown c (fs ++ f ∷ []) ≡ entriesDown c fs ++ entriesIn (c - length fs) f
@@ -86,7 +89,7 @@ entries-push c [] f = append-nil (entriesIn c f) ∙ ap (λ d. entriesIn d f) (o
 entries-push c (g ∷ fs) f =
     let d : c - 1 - length fs ≡ c - suc (length fs) = omega arith in
     ap (λ xs. entriesIn c g ++ xs) (entries-push (c - 1) fs f ∙ ap (λ e. entriesDown (c - 1) fs ++ entriesIn e f) d)
-  ∙ sym (append-assoc (entriesIn c g) (entriesDown (c - 1) fs) (entriesIn (c - suc (length fs)) f))
+    ∙ sym (append-assoc (entriesIn c g) (entriesDown (c - 1) fs) (entriesIn (c - suc (length fs)) f))
 
 pub groups-more : (i : ℕ) (es : List FlowEntry) (fs : List ClassFlows) (f : ClassFlows) → i < 8 → length fs ≡ i →
     bucketEntries (7 - i) (vec-items (f .buckets)) ≡ flowsOf (7 - i) kind.Bucket es → periodicEntries (7 - i) (vec-items (f .periodics)) ≡ flowsOf (7 - i) kind.Periodic es →
@@ -97,18 +100,14 @@ groups-more i es fs f h n b p =
     let s : 8 - i ≡ suc (7 - i) = omega arith in
     let t : 8 - (i + 1) ≡ 7 - i = omega arith in
     ap (λ xs. xs ++ groups (8 - (i + 1)) es) (entries-push 7 fs f ∙ ap (λ e. entriesDown 7 fs ++ entriesIn e f) d)
-  ∙ append-assoc (entriesDown 7 fs) (entriesIn (7 - i) f) (groups (8 - (i + 1)) es)
-  ∙ ap (λ xs. entriesDown 7 fs ++ xs) ((λ j. (b j ++ p j) ++ groups (t j) es) ∙ ap (λ m. groups m es) (sym s))
+    ∙ append-assoc (entriesDown 7 fs) (entriesIn (7 - i) f) (groups (8 - (i + 1)) es)
+    ∙ ap (λ xs. entriesDown 7 fs ++ xs) ((λ j. (b j ++ p j) ++ groups (t j) es) ∙ ap (λ m. groups m es) (sym s))
 
 pub groups-end : (i : ℕ) (es xs : List FlowEntry) → 8 ≤ i → xs ++ groups (8 - i) es ≡ groups 8 es → xs ≡ groups 8 es
 unfolding groups
 groups-end i es xs h e = let z : 8 - i ≡ 0 = omega arith in sym (append-nil xs) ∙ ap (λ m. xs ++ groups m es) (sym z) ∙ e
 
--- nothing passes
-pub none-kept : {X : Type 0} (test : X → Bool) (xs : List X) → All (λ x. test x ≡ false) xs → kept-by test xs ≡ []
-none-kept test [] h = refl
-none-kept test (x ∷ xs) h = cond-false (test x) _ _ (h .0) ∙ none-kept test xs (h .1)
-
+-- a list of the class c, by kind
 module _ (c : ℕ) where
   buckets-pass : (bs : List Bucket) → flowsOf c kind.Bucket (bucketEntries c bs) ≡ bucketEntries c bs
   unfolding flowsOf
@@ -154,7 +153,7 @@ unfolding flowsOf
 entries-below c d k [] h = refl
 entries-below c d k (f ∷ fs) h =
     flows-append c k (entriesIn d f) (entriesDown (d - 1) fs)
-  ∙ (λ i. entries-other c d k (λ e. omega arith) f i ++ entries-below c (d - 1) k fs (omega arith) i)
+    ∙ (λ i. entries-other c d k (λ e. omega arith) f i ++ entries-below c (d - 1) k fs (omega arith) i)
 
 -- the flows of a kind in the list of the class c are those that the list of all classes has
 abbrev pub inClass : ℕ → Kind → ClassFlows → List FlowEntry
@@ -164,10 +163,10 @@ inClass c kind.Periodic f = periodicEntries c (vec-items (f .periodics))
 own-entries : (c : ℕ) (k : Kind) (f : ClassFlows) → flowsOf c k (entriesIn c f) ≡ inClass c k f
 own-entries c kind.Bucket f =
     flows-append c kind.Bucket (bucketEntries c (vec-items (f .buckets))) (periodicEntries c (vec-items (f .periodics)))
-  ∙ (λ i. buckets-pass c (vec-items (f .buckets)) i ++ periodics-fail c (vec-items (f .periodics)) i) ∙ append-nil _
+    ∙ (λ i. buckets-pass c (vec-items (f .buckets)) i ++ periodics-fail c (vec-items (f .periodics)) i) ∙ append-nil _
 own-entries c kind.Periodic f =
     flows-append c kind.Periodic (bucketEntries c (vec-items (f .buckets))) (periodicEntries c (vec-items (f .periodics)))
-  ∙ (λ i. buckets-fail c (vec-items (f .buckets)) i ++ periodics-pass c (vec-items (f .periodics)) i)
+    ∙ (λ i. buckets-fail c (vec-items (f .buckets)) i ++ periodics-pass c (vec-items (f .periodics)) i)
 
 -- the lists behind that of the class c hold none of it
 rest-none : (k : Kind) (c : ℕ) (fs : List ClassFlows) → length fs ≡ c → flowsOf c k (entriesDown (c - 1) fs) ≡ []
@@ -180,18 +179,18 @@ class-entries k c d [] f le n at = absurd (omega arith)
 class-entries k c d (g ∷ fs) f le n at =
     ⊎-elim
     (λ (h : c < d).
-        let s : d - c ≡ suc (d - 1 - c) = omega arith in
-        let m : length fs ≡ suc (d - 1) = omega arith in
-        class-entries k c (d - 1) fs f (omega arith) m (at ∙ ap (λ i. getD (g ∷ fs) i f) s)
-      ∙ sym (flows-append c k (entriesIn d g) (entriesDown (d - 1) fs) ∙ ap (λ xs. xs ++ flowsOf c k (entriesDown (d - 1) fs)) (entries-other c d k (λ e. omega arith) g)))
+    let s : d - c ≡ suc (d - 1 - c) = omega arith in
+    let m : length fs ≡ suc (d - 1) = omega arith in
+    class-entries k c (d - 1) fs f (omega arith) m (at ∙ ap (λ i. getD (g ∷ fs) i f) s)
+    ∙ sym (flows-append c k (entriesIn d g) (entriesDown (d - 1) fs) ∙ ap (λ xs. xs ++ flowsOf c k (entriesDown (d - 1) fs)) (entries-other c d k (λ e. omega arith) g)))
     (λ (h : d ≤ c).
-        let e : c ≡ d = omega arith in
-        let s : d - c ≡ 0 = omega arith in
-        let same : f ≡ g = at ∙ ap (λ i. getD (g ∷ fs) i f) s in
-        let m : length fs ≡ c = omega arith in
-        ap (inClass c k) same
-      ∙ sym (flows-append c k (entriesIn c g) (entriesDown (c - 1) fs) ∙ (λ i. own-entries c k g i ++ rest-none k c fs m i) ∙ append-nil (inClass c k g))
-      ∙ ap (λ j. flowsOf c k (entriesDown j (g ∷ fs))) e)
+    let e : c ≡ d = omega arith in
+    let s : d - c ≡ 0 = omega arith in
+    let same : f ≡ g = at ∙ ap (λ i. getD (g ∷ fs) i f) s in
+    let m : length fs ≡ c = omega arith in
+    ap (inClass c k) same
+    ∙ sym (flows-append c k (entriesIn c g) (entriesDown (c - 1) fs) ∙ (λ i. own-entries c k g i ++ rest-none k c fs m i) ∙ append-nil (inClass c k g))
+    ∙ ap (λ j. flowsOf c k (entriesDown j (g ∷ fs))) e)
     (cases-lt c d)
 
 -- the sizes of the class c

@@ -1,6 +1,6 @@
 -- Flows that stand in order are their own arrangement by class and kind.
 use mathlib.Core.Path.{_≡_, refl, sym, ap, subst, _∙_}
-use mathlib.Core.Bool.{Bool, true, false, cond, _&&_}
+use mathlib.Core.Bool.{true, false}
 use mathlib.Core.List.{List, [], _∷_, _++_}
 use mathlib.Core.Logic.{⊎-elim}
 use Prim.Native.Nat.{ℕ, zero, suc, _<_, _≤_}
@@ -11,12 +11,12 @@ use Rattle.std.proofs.shelf.Tests.{cases-lt, eq-eqb, and-from, and-right, cond-
 use Rattle.reader.specs.declared.contents.Kind.{Kind}
 use Rattle.reader.specs.declared.contents.Kind.the-variants as kind
 use Rattle.reader.specs.declared.contents.Place.{Place}
-use Rattle.reader.specs.Entries.{first, kindAfter}
+use Rattle.reader.specs.Entries.{kindAfter}
 use Rattle.reader.specs.Said.{Flow, bucket, periodic, FlowEntry, ClassEntry}
 use Rattle.reader.specs.Views.{kindOf, entryPlace}
 use Rattle.writing.specs.Written.{FlowFits, Ordered}
 use Rattle.plan.specs.Arranged.{sameKind, ofKind, flowsOf, groups}
-use Rattle.plan.proofs.Grouping.{none-kept, other-class}
+use Rattle.plan.proofs.Grouping.{other-class}
 
 -- no flow has a higher class than the place before it
 falls-all : (cs : List ClassEntry) (p : Place) (n : ℕ) (fs : List FlowEntry) → p .class ≤ n → Ordered cs p fs → All (λ f. f .class ≤ n) fs
@@ -43,11 +43,11 @@ no-bucket cs c (f ∷ fs) o =
     ⊎-elim
     (λ (h : f .class < c). below-none c kind.Bucket (f ∷ fs) (f .class) h (omega arith, falls-all cs (entryPlace f) (f .class) fs (omega arith) (o .1)))
     (λ (h : c ≤ f .class).
-        let le = o .0 .falls in
-        let e : f .class ≡ c = omega arith in
-        let k = after-periodic (f .flow) (o .0 .kinds e) in
-        cond-false _ _ _ (and-right (eqb (f .class) c) (sameKind kind.Bucket (kindOf (f .flow))) (ap (sameKind kind.Bucket) k))
-      ∙ no-bucket cs c fs (subst (λ p. Ordered cs p fs) (λ i. record { class = e i; kind = k i }) (o .1)))
+    let le = o .0 .falls in
+    let e : f .class ≡ c = omega arith in
+    let k = after-periodic (f .flow) (o .0 .kinds e) in
+    cond-false _ _ _ (and-right (eqb (f .class) c) (sameKind kind.Bucket (kindOf (f .flow))) (ap (sameKind kind.Bucket) k))
+    ∙ no-bucket cs c fs (subst (λ p. Ordered cs p fs) (λ i. record { class = e i; kind = k i }) (o .1)))
     (cases-lt (f .class) c)
 
 -- a flow of a class that is not below n
@@ -56,8 +56,8 @@ unfolding groups flowsOf
 skip-class zero f fs h = refl
 skip-class (suc n) f fs h =
     (λ i. (cond-false (ofKind n kind.Bucket f) (f ∷ kept-by (ofKind n kind.Bucket) fs) (kept-by (ofKind n kind.Bucket) fs) (other-class n kind.Bucket f (λ e. omega arith)) i
-        ++ cond-false (ofKind n kind.Periodic f) (f ∷ kept-by (ofKind n kind.Periodic) fs) (kept-by (ofKind n kind.Periodic) fs) (other-class n kind.Periodic f (λ e. omega arith)) i)
-        ++ skip-class n f fs (omega arith) i)
+    ++ cond-false (ofKind n kind.Periodic f) (f ∷ kept-by (ofKind n kind.Periodic) fs) (kept-by (ofKind n kind.Periodic) fs) (other-class n kind.Periodic f (λ e. omega arith)) i)
+    ++ skip-class n f fs (omega arith) i)
 
 -- nothing is arranged as nothing
 pub groups-nil : (n : ℕ) → groups n [] ≡ []
@@ -89,16 +89,16 @@ first-flow : (cs : List ClassEntry) (n : ℕ) (f : FlowEntry) (fs : List FlowEnt
 unfolding groups flowsOf
 first-flow cs n f fs kind.Bucket c e o r =
     (λ i. (cond-true (ofKind n kind.Bucket f) (f ∷ kept-by (ofKind n kind.Bucket) fs) (kept-by (ofKind n kind.Bucket) fs) (passes n f kind.Bucket c e) i
-        ++ cond-false (ofKind n kind.Periodic f) (f ∷ kept-by (ofKind n kind.Periodic) fs) (kept-by (ofKind n kind.Periodic) fs) (fails n f kind.Bucket c e kind.Periodic refl) i)
-        ++ skip-class n f fs (omega arith) i)
-  ∙ ap (λ xs. f ∷ xs) r
+    ++ cond-false (ofKind n kind.Periodic f) (f ∷ kept-by (ofKind n kind.Periodic) fs) (kept-by (ofKind n kind.Periodic) fs) (fails n f kind.Bucket c e kind.Periodic refl) i)
+    ++ skip-class n f fs (omega arith) i)
+    ∙ ap (λ xs. f ∷ xs) r
 first-flow cs n f fs kind.Periodic c e o r =
     let none = no-bucket cs n fs (subst (λ p. Ordered cs p fs) (λ i. record { class = c i; kind = e i }) o) in
     (λ i. (cond-false (ofKind n kind.Bucket f) (f ∷ kept-by (ofKind n kind.Bucket) fs) (kept-by (ofKind n kind.Bucket) fs) (fails n f kind.Periodic c e kind.Bucket refl) i
-        ++ cond-true (ofKind n kind.Periodic f) (f ∷ kept-by (ofKind n kind.Periodic) fs) (kept-by (ofKind n kind.Periodic) fs) (passes n f kind.Periodic c e) i)
-        ++ skip-class n f fs (omega arith) i)
-  ∙ ap (λ xs. (xs ++ (f ∷ flowsOf n kind.Periodic fs)) ++ groups n fs) none
-  ∙ ap (λ xs. f ∷ xs) (ap (λ xs. (xs ++ flowsOf n kind.Periodic fs) ++ groups n fs) (sym none) ∙ r)
+    ++ cond-true (ofKind n kind.Periodic f) (f ∷ kept-by (ofKind n kind.Periodic) fs) (kept-by (ofKind n kind.Periodic) fs) (passes n f kind.Periodic c e) i)
+    ++ skip-class n f fs (omega arith) i)
+    ∙ ap (λ xs. (xs ++ (f ∷ flowsOf n kind.Periodic fs)) ++ groups n fs) none
+    ∙ ap (λ xs. f ∷ xs) (ap (λ xs. (xs ++ flowsOf n kind.Periodic fs) ++ groups n fs) (sym none) ∙ r)
 
 -- one class more
 groups-step : (n : ℕ) → ((cs : List ClassEntry) (p : Place) (fs : List FlowEntry) → p .class < n → Ordered cs p fs → groups n fs ≡ fs) →
@@ -109,12 +109,12 @@ groups-step n lower cs p (f ∷ fs) h o =
     let le = o .0 .falls in
     ⊎-elim
     (λ (l : f .class < n).
-        let all : All (λ g. g .class ≤ f .class) (f ∷ fs) = (omega arith, falls-all cs (entryPlace f) (f .class) fs (omega arith) (o .1)) in
-        (λ i. (below-none n kind.Bucket (f ∷ fs) (f .class) l all i ++ below-none n kind.Periodic (f ∷ fs) (f .class) l all i) ++ groups n (f ∷ fs))
-      ∙ lower cs (entryPlace f) (f ∷ fs) l (follows-self cs p f (o .0), o .1))
+    let all : All (λ g. g .class ≤ f .class) (f ∷ fs) = (omega arith, falls-all cs (entryPlace f) (f .class) fs (omega arith) (o .1)) in
+    (λ i. (below-none n kind.Bucket (f ∷ fs) (f .class) l all i ++ below-none n kind.Periodic (f ∷ fs) (f .class) l all i) ++ groups n (f ∷ fs))
+    ∙ lower cs (entryPlace f) (f ∷ fs) l (follows-self cs p f (o .0), o .1))
     (λ (l : n ≤ f .class).
-        let e : f .class ≡ n = omega arith in
-        first-flow cs n f fs (kindOf (f .flow)) e refl (o .1) (groups-step n lower cs (entryPlace f) fs (omega arith) (o .1)))
+    let e : f .class ≡ n = omega arith in
+    first-flow cs n f fs (kindOf (f .flow)) e refl (o .1) (groups-step n lower cs (entryPlace f) fs (omega arith) (o .1)))
     (cases-lt (f .class) n)
 
 -- flows in order are their own arrangement

@@ -1,11 +1,11 @@
 -- The checks of lines and fields, by their outcomes.
 use mathlib.Core.Path.{_≡_, refl, sym, ap, _∙_}
-use mathlib.Core.Bool.{true, false, cond, _&&_}
+use mathlib.Core.Bool.{false}
 use mathlib.Core.List.{List, [], _∷_, map}
 use Prim.Native.Nat.{ℕ, zero, suc, _+_, _-_, _<_, _≤_}
 use mathlib.Core.Logic.{⊎-elim}
 use native.Mathlib.Omega.{arith}
-use lib.Dec.{eqb, ltb, leb}
+use lib.Dec.{leb}
 use lib.ListN.{length, getD, drop, set}
 use Rattle.std.specs.Options.{okOr, Cases as BySome}
 use Rattle.std.specs.declared.option.Option.{Option}
@@ -16,13 +16,12 @@ use Rattle.std.proofs.shelf.Tests.{cases-lt, eq-eqb, ne-eqb, le-leb, lt-leb, an
 use Rattle.units.specs.Limits.{frame-least, frame-most, depth-most, burst-least, burst-most, rate-ticks-most, period-most, jitter-most}
 use Rattle.envelope.specs.Ranges.{BucketRange, PeriodicRange}
 use Rattle.faults.specs.declared.fault.FieldFault.the-variants.{Form, Range}
-use Rattle.faults.specs.declared.fault.LineFault.the-variants.{Missing}
 use Rattle.gates.specs.declared.gate_line.Gate.{Gate}
 use Rattle.gates.specs.declared.gate_line.Gate.the-variants.{Open, Shut}
 use Rattle.gates.specs.declared.traffic_class.TrafficClass.{TrafficClass}
 use Rattle.gates.specs.Sizes.{Sized}
 use Rattle.text.specs.Cuts.{before}
-use Rattle.text.proofs.Cutting.{shorter, longer}
+use Rattle.text.proofs.Cutting.{shorter}
 use Rattle.reader.specs.Chain.{andThen, told}
 use Rattle.reader.specs.Said.{ClassEntry, largestOf}
 use Rattle.reader.specs.Views.{sizesOf}
@@ -33,9 +32,7 @@ use Rattle.reader.specs.Fields.{ranged, roomMost, lettersFrom, gatesIn}
 pub line-here : (k : ℕ) (xs l : List ℕ) → l ≡ before 10 xs → length l < length xs → Ok l ≡ lineAt k xs
 line-here k xs l e h = ap Ok e ∙ sym (cond-true _ _ _ (shorter 10 xs l e h))
 
-pub line-none : (k : ℕ) (xs l : List ℕ) → l ≡ before 10 xs → length xs ≤ length l → Err (Missing k) ≡ lineAt k xs
-line-none k xs l e h = sym (cond-false _ _ _ (longer 10 xs l e h))
-
+-- a number and its range
 module _ (k least most n : ℕ) where
   pub in-range : least ≤ n → n ≤ most → Ok n ≡ ranged k least most n
   in-range h l = sym (cond-true _ _ _ (and-from _ _ (le-leb least n h) (le-leb n most l)))
@@ -69,7 +66,7 @@ module _ (gs : List Gate) (xs : List ℕ) (i : ℕ) (eight : length gs ≡ 8) (h
   unfolding lettersFrom
   letter-shut e =
       at-drop-more (lettersFrom (drop (8 - i) gs)) xs i 0 h ∙ cond-false _ _ _ (ne-eqb (getD xs i 0) 79 (λ f. omega arith)) ∙ cond-true _ _ _ (eq-eqb _ _ e)
-    ∙ ap (λ r. lettersFrom r (drop (i + 1) xs)) (sym (put-front gs i Shut eight l))
+      ∙ ap (λ r. lettersFrom r (drop (i + 1) xs)) (sym (put-front gs i Shut eight l))
 
 pub letter-other : (gs : List Gate) (xs : List ℕ) (i : ℕ) → i < length xs → (getD xs i 0 ≡ 79 → ⊥) → (getD xs i 0 ≡ 67 → ⊥) → lettersFrom gs (drop i xs) ≡ None
 unfolding lettersFrom
@@ -111,7 +108,7 @@ room-some m h = cond-false _ _ _ (ne-eqb m 0 (λ e. omega arith))
 
 -- the depth is in its range exactly where the sizes are those of a class
 module _ (m d : ℕ) where
-  in-room : m ≤ frame-most → (1 ≤ m → frame-least ≤ m) → m ≤ d → d ≤ roomMost m → Sized m d
+  pub in-room : m ≤ frame-most → (1 ≤ m → frame-least ≤ m) → m ≤ d → d ≤ roomMost m → Sized m d
   in-room most least low high =
       ⊎-elim
       (λ (h : m < 1). let z : m ≡ 0 = omega arith in let r = room-none m z in record { most = most; least = least; room = low; deep = omega arith; silent = λ e. omega arith })
@@ -130,10 +127,10 @@ module _ (m d : ℕ) where
       ⊎-elim
       (λ (h : d < m). below-range k m (roomMost m) d h)
       (λ (h : m ≤ d).
-          ⊎-elim
-          (λ (g : roomMost m < d). above-range k m (roomMost m) d g)
-          (λ (g : d ≤ roomMost m). absurd (none (in-room most least h g)))
-          (cases-lt (roomMost m) d))
+      ⊎-elim
+      (λ (g : roomMost m < d). above-range k m (roomMost m) d g)
+      (λ (g : d ≤ roomMost m). absurd (none (in-room most least h g)))
+      (cases-lt (roomMost m) d))
       (cases-lt d m)
 
 abbrev sizesWith : ℕ → ℕ → ClassEntry

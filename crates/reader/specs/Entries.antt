@@ -70,11 +70,11 @@ flowLine k cs last text =
     andThen (within Line (dueLine k Flow 4 text)) (λ v.
     andThen (inField (numberField k 0 7 (before 44 v))) (λ c.
     cond (leb c (last .class) && ltb 0 (largestOf cs c))
-      (andThen (inField (kindIn k (before 44 (past 44 v)))) (λ kind.
-        cond (ltb c (last .class) || kindAfter (last .kind) kind)
-          (andThen (inField (flowIn k kind (largestOf cs c) (past 44 (past 44 v)))) (λ f. Ok (record { class = c; flow = f })))
-          (Err (Order k))))
-      (Err (Order k))))
+    (andThen (inField (kindIn k (before 44 (past 44 v)))) (λ kind.
+    cond (ltb c (last .class) || kindAfter (last .kind) kind)
+    (andThen (inField (flowIn k kind (largestOf cs c) (past 44 (past 44 v)))) (λ f. Ok (record { class = c; flow = f })))
+    (Err (Order k))))
+    (Err (Order k))))
 
 -- the place before the first flow line, which any flow may follow
 abbrev pub first : Place

@@ -32,8 +32,14 @@ impl FlowLine {
         ensures { λ r. ⌜ r ≡ placeOf self ⌝ }
     {
         match self.flow {
-            Flow::Bucket(_) => Place { class: self.class, kind: Kind::Bucket },
-            Flow::Periodic(_) => Place { class: self.class, kind: Kind::Periodic },
+            Flow::Bucket(_) => Place {
+                class: self.class,
+                kind: Kind::Bucket,
+            },
+            Flow::Periodic(_) => Place {
+                class: self.class,
+                kind: Kind::Periodic,
+            },
         }
     }
 }

@@ -69,7 +69,11 @@ impl Reader<'_> {
     }
 
     // The next flow line, after one at the place `last`.
-    pub(crate) fn flow_line(&mut self, classes: &[TrafficClass; 8], last: Place) -> Result<FlowLine, PlanFault>
+    pub(crate) fn flow_line(
+        &mut self,
+        classes: &[TrafficClass; 8],
+        last: Place,
+    ) -> Result<FlowLine, PlanFault>
         requires { ⌜ now self .line < 1000 ⌝ }
         ensures value { λ r. ⌜ told entryOf r ≡ flowLine (now (self .entry) .line) (map sizesOf (now (classes .entry))) last (now (now (self .entry) .rest)) ⌝ }
         ensures rest { λ _. ⌜ now (now (self .exit) .rest) ≡ past 10 (now (now (self .entry) .rest)) ⌝ }

@@ -1,7 +1,8 @@
 // The fields of a line, each with its form and then its range.
 ghost use mathlib.Core.Path.{_≡_};
-ghost use Prim.Native.Nat.{_+_, _^_, _<_, _≤_};
+ghost use Prim.Native.Nat.{_≤_};
 ghost use Rattle.std.specs.Vec.{made};
+ghost use Rattle.units.specs.Limits.{frame-least, frame-most};
 ghost use Rattle.text.specs.Cuts.{before, past};
 ghost use Rattle.reader.specs.Chain.{told};
 ghost use Rattle.reader.specs.Fields.{numeralField, numberField, largestField, gatesIn, kindIn, gateIn, sizesIn, bucketIn, periodicIn, flowIn};
@@ -90,7 +91,7 @@ impl Reader<'_> {
     // The largest frame of a class, 0 or 64 to 1,522 bytes.
     fn largest(&mut self) -> Result<u64, FieldFault>
         ensures value { λ r. ⌜ r ≡ largestField (now (self .entry) .line) (before 44 (now (now (self .entry) .rest))) ⌝ }
-        ensures bound { λ r. ⌜ made r (λ n. (n ≤ 1522) × (1 ≤ n → 64 ≤ n)) ⌝ }
+        ensures bound { λ r. ⌜ made r (λ n. (n ≤ frame-most) × (1 ≤ n → frame-least ≤ n)) ⌝ }
         ensures rest { λ _. ⌜ now (now (self .exit) .rest) ≡ past 44 (now (now (self .entry) .rest)) ⌝ }
         ensures line { λ _. ⌜ now (self .exit) .line ≡ now (self .entry) .line ⌝ }
     {
@@ -112,7 +113,7 @@ impl Reader<'_> {
 
     // The numbers of a flow of this kind, in a class with this largest frame.
     pub(crate) fn flow(&mut self, kind: Kind, largest: Bytes) -> Result<Flow, FieldFault>
-        requires { ⌜ largest .0 ≤ 1522 ⌝ }
+        requires { ⌜ largest .0 ≤ frame-most ⌝ }
         ensures { λ r. ⌜ told flowOf r ≡ flowIn (now (self .entry) .line) kind (largest .0) (now (now (self .entry) .rest)) ⌝ }
     {
         match kind {
@@ -136,7 +137,7 @@ impl Reader<'_> {
 
     // The numbers of a periodic flow, whose frames are no longer than `largest`.
     fn periodic(&mut self, largest: Bytes) -> Result<Flow, FieldFault>
-        requires { ⌜ largest .0 ≤ 1522 ⌝ }
+        requires { ⌜ largest .0 ≤ frame-most ⌝ }
         ensures { λ r. ⌜ told flowOf r ≡ periodicIn (now (self .entry) .line) (largest .0) (now (now (self .entry) .rest)) ⌝ }
     {
         let bytes = self.number(MIN_FRAME, largest.0)?;

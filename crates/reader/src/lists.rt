@@ -1,11 +1,11 @@
 // The lists of a plan: the lines one after another.
 ghost use mathlib.Core.List.{[], map};
 ghost use mathlib.Core.Path.{_≡_};
-ghost use lib.ListN.{length};
 ghost use Prim.Native.Nat.{_+_, _<_, _≤_};
 ghost use Rattle.std.specs.Of.Vec.{vec-items, vec-len, vec-cap};
 ghost use Rattle.std.specs.Vec.{made};
 ghost use Rattle.std.specs.shelf.Lists.{All};
+ghost use Rattle.units.specs.Limits.{port-most, lines-most, cycle-most, flows-most};
 ghost use Rattle.reader.specs.Chain.{told, each, skip};
 ghost use Rattle.reader.specs.Entries.{nextGate, nextFlow};
 ghost use Rattle.reader.specs.Parsed.{linesOf, entriesOf};
@@ -40,7 +40,7 @@ impl Reader<'_> {
     pub(crate) fn header(&mut self) -> Result<Header, LineFault>
         requires { ⌜ now self .line ≡ 1 ⌝ }
         ensures value { λ r. ⌜ r ≡ headerIn (now (now (self .entry) .rest)) ⌝ }
-        ensures bound { λ r. ⌜ made r (λ h. (h .port ≤ 65535) × (1 ≤ h .cycle) × (h .cycle ≤ 500000) × (1 ≤ h .gates) × (h .gates ≤ 64)) ⌝ }
+        ensures bound { λ r. ⌜ made r (λ h. (h .port ≤ port-most) × (1 ≤ h .cycle) × (h .cycle ≤ cycle-most) × (1 ≤ h .gates) × (h .gates ≤ lines-most)) ⌝ }
         ensures rest { λ r. ⌜ made r (λ _. now (now (self .exit) .rest) ≡ skip 3 (now (now (self .entry) .rest))) ⌝ }
         ensures line { λ r. ⌜ made r (λ _. now (self .exit) .line ≡ 4) ⌝ }
     {
@@ -51,13 +51,17 @@ impl Reader<'_> {
     }
 
     // The gate list on the lines after the header, by way of `lines`, which has room for it.
-    pub(crate) fn gate_list(&mut self, header: Header, lines: Vec<GateLine>) -> Result<GateList, PlanFault>
+    pub(crate) fn gate_list(
+        &mut self,
+        header: Header,
+        lines: Vec<GateLine>,
+    ) -> Result<GateList, PlanFault>
         requires line { ⌜ now self .line ≡ 4 ⌝ }
         requires some { ⌜ 1 ≤ header .gates ⌝ }
-        requires few { ⌜ header .gates ≤ 64 ⌝ }
-        requires most { ⌜ header .cycle ≤ 500000 ⌝ }
+        requires few { ⌜ header .gates ≤ lines-most ⌝ }
+        requires most { ⌜ header .cycle ≤ cycle-most ⌝ }
         requires empty { ⌜ vec-items lines ≡ [] ⌝ }
-        requires room { ⌜ 64 ≤ vec-cap lines ⌝ }
+        requires room { ⌜ lines-most ≤ vec-cap lines ⌝ }
         ensures value { λ r. ⌜ told linesOf r ≡ gatesListed (header .cycle) (header .gates) (now (now (self .entry) .rest)) ⌝ }
         ensures cycle { λ r. ⌜ made r (λ g. g .cycle .0 ≡ header .cycle) ⌝ }
         ensures rest { λ r. ⌜ made r (λ _. now (now (self .exit) .rest) ≡ skip (header .gates) (now (now (self .entry) .rest))) ⌝ }
@@ -68,11 +72,15 @@ impl Reader<'_> {
     }
 
     // The next `count` gate lines.
-    fn gate_lines(&mut self, mut lines: Vec<GateLine>, count: u64) -> Result<Vec<GateLine>, LineFault>
+    fn gate_lines(
+        &mut self,
+        mut lines: Vec<GateLine>,
+        count: u64,
+    ) -> Result<Vec<GateLine>, LineFault>
         requires line { ⌜ now self .line < 100 ⌝ }
-        requires few { ⌜ count ≤ 64 ⌝ }
+        requires few { ⌜ count ≤ lines-most ⌝ }
         requires empty { ⌜ vec-items lines ≡ [] ⌝ }
-        requires room { ⌜ 64 ≤ vec-cap lines ⌝ }
+        requires room { ⌜ lines-most ≤ vec-cap lines ⌝ }
         ensures value { λ r. ⌜ told vec-items r ≡ each nextGate count (now (self .entry) .line) (now (now (self .entry) .rest)) [] ⌝ }
         ensures bound { λ r. ⌜ made r (λ v. All Long (vec-items v) × (vec-len v ≡ count)) ⌝ }
         ensures rest { λ r. ⌜ made r (λ _. now (now (self .exit) .rest) ≡ skip count (now (now (self .entry) .rest))) ⌝ }
@@ -101,10 +109,14 @@ impl Reader<'_> {
     }
 
     // The number of flow lines and those lines, with which the text ends, by way of `flows`, which has room for them.
-    pub(crate) fn flow_list(&mut self, classes: &[TrafficClass; 8], flows: Vec<FlowLine>) -> Result<Vec<FlowLine>, PlanFault>
+    pub(crate) fn flow_list(
+        &mut self,
+        classes: &[TrafficClass; 8],
+        flows: Vec<FlowLine>,
+    ) -> Result<Vec<FlowLine>, PlanFault>
         requires line { ⌜ now self .line < 100 ⌝ }
         requires empty { ⌜ vec-items flows ≡ [] ⌝ }
-        requires room { ⌜ 64 ≤ vec-cap flows ⌝ }
+        requires room { ⌜ flows-most ≤ vec-cap flows ⌝ }
         ensures { λ r. ⌜ told entriesOf r ≡ flowsListed (map sizesOf (now (classes .entry))) (now (self .entry) .line) (now (now (self .entry) .rest)) ⌝ }
     {
         let count = self.number_line(Key::Flows, 0, MAX_FLOWS as u64)?;
@@ -116,16 +128,24 @@ impl Reader<'_> {
     }
 
     // The next `count` flow lines.
-    fn flow_lines(&mut self, classes: &[TrafficClass; 8], mut flows: Vec<FlowLine>, count: u64) -> Result<Vec<FlowLine>, PlanFault>
+    fn flow_lines(
+        &mut self,
+        classes: &[TrafficClass; 8],
+        mut flows: Vec<FlowLine>,
+        count: u64,
+    ) -> Result<Vec<FlowLine>, PlanFault>
         requires line { ⌜ now self .line < 200 ⌝ }
-        requires few { ⌜ count ≤ 64 ⌝ }
+        requires few { ⌜ count ≤ flows-most ⌝ }
         requires empty { ⌜ vec-items flows ≡ [] ⌝ }
-        requires room { ⌜ 64 ≤ vec-cap flows ⌝ }
+        requires room { ⌜ flows-most ≤ vec-cap flows ⌝ }
         ensures value { λ r. ⌜ told entriesOf r ≡ each (nextFlow (map sizesOf (now (classes .entry)))) count (now (self .entry) .line) (now (now (self .entry) .rest)) [] ⌝ }
         ensures rest { λ r. ⌜ made r (λ _. now (now (self .exit) .rest) ≡ skip count (now (now (self .entry) .rest))) ⌝ }
         ensures line { λ r. ⌜ made r (λ _. now (self .exit) .line ≡ now (self .entry) .line + count) ⌝ }
     {
-        let mut last = Place { class: 7, kind: Kind::Bucket };
+        let mut last = Place {
+            class: 7,
+            kind: Kind::Bucket,
+        };
         for i in 0..count {
             let flow = self.flow_line(classes, last)?;
             last = flow.place();

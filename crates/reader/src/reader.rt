@@ -31,7 +31,7 @@ impl<'a> Reader<'a> {
         piece
     }
 
-    // The next line, without its byte 10.
+    // The next line, without its byte 10. No plan has as many as a thousand lines.
     pub(crate) fn next_line(&mut self) -> Result<&'a [u8], LineFault>
         requires { ⌜ now self .line < 1000 ⌝ }
         ensures value { λ r. ⌜ content r ≡ lineAt (now (self .entry) .line) (now (now (self .entry) .rest)) ⌝ }
@@ -42,7 +42,11 @@ impl<'a> Reader<'a> {
         self.line = number + 1;
         let left = self.rest.len();
         let line = self.piece(b'\n');
-        if line.len() < left { Ok(line) } else { Err(LineFault::Missing(number)) }
+        if line.len() < left {
+            Ok(line)
+        } else {
+            Err(LineFault::Missing(number))
+        }
     }
 
     // The fields of the next line, which has to have the due key and so many commas between its fields.

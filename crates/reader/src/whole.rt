@@ -6,6 +6,7 @@ ghost use Prim.Native.Nat.{_≤_};
 ghost use Rattle.std.specs.Of.Vec.{vec-items, vec-cap};
 ghost use Rattle.std.specs.Results.{Cases};
 ghost use Rattle.std.specs.declared.result.Result.the-variants.{Ok, Err};
+ghost use Rattle.units.specs.Limits.{lines-most, flows-most};
 ghost use Rattle.faults.specs.declared.fault.PlanFault.the-variants.{Memory};
 ghost use Rattle.reader.specs.Chain.{told};
 ghost use Rattle.reader.specs.Parsed.{saidBy};
@@ -34,9 +35,9 @@ pub fn parse(heap: Global, text: &[u8]) -> Result<Contents, PlanFault>
 // The contents of the text, by way of two empty lists with room for it.
 fn read_text(text: &[u8], lines: Vec<GateLine>, flows: Vec<FlowLine>) -> Result<Contents, PlanFault>
     requires no_line { ⌜ vec-items lines ≡ [] ⌝ }
-    requires line_room { ⌜ 64 ≤ vec-cap lines ⌝ }
+    requires line_room { ⌜ lines-most ≤ vec-cap lines ⌝ }
     requires no_flow { ⌜ vec-items flows ≡ [] ⌝ }
-    requires flow_room { ⌜ 64 ≤ vec-cap flows ⌝ }
+    requires flow_room { ⌜ flows-most ≤ vec-cap flows ⌝ }
     ensures { λ r. ⌜ told saidBy r ≡ readPlan (now (text .entry)) ⌝ }
 {
     if text.len() < 1 || text.len() > MAX_TEXT {
@@ -46,17 +47,29 @@ fn read_text(text: &[u8], lines: Vec<GateLine>, flows: Vec<FlowLine>) -> Result<
 }
 
 // The contents of the lines.
-fn read_lines(text: &[u8], lines: Vec<GateLine>, flows: Vec<FlowLine>) -> Result<Contents, PlanFault>
+fn read_lines(
+    text: &[u8],
+    lines: Vec<GateLine>,
+    flows: Vec<FlowLine>,
+) -> Result<Contents, PlanFault>
     requires no_line { ⌜ vec-items lines ≡ [] ⌝ }
-    requires line_room { ⌜ 64 ≤ vec-cap lines ⌝ }
+    requires line_room { ⌜ lines-most ≤ vec-cap lines ⌝ }
     requires no_flow { ⌜ vec-items flows ≡ [] ⌝ }
-    requires flow_room { ⌜ 64 ≤ vec-cap flows ⌝ }
+    requires flow_room { ⌜ flows-most ≤ vec-cap flows ⌝ }
     ensures { λ r. ⌜ told saidBy r ≡ readLines (now (text .entry)) ⌝ }
 {
-    let mut reader = Reader { rest: text, line: 1 };
+    let mut reader = Reader {
+        rest: text,
+        line: 1,
+    };
     let header = reader.header()?;
     let gates = reader.gate_list(header, lines)?;
     let classes = reader.class_list()?;
     let flows = reader.flow_list(&classes, flows)?;
-    Ok(Contents { port: header.port as u16, gates, classes, flows })
+    Ok(Contents {
+        port: header.port as u16,
+        gates,
+        classes,
+        flows,
+    })
 }

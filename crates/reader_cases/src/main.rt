@@ -41,7 +41,10 @@ fn holds(rt: &LibcRuntime, plan: &mut Plan, base: &[String], case: &str) -> Resu
     let mut parts = case.split('\t');
     let due = parts.next().ok_or("a case has an answer")?;
     let title = parts.next().ok_or("a case has a title")?;
-    let place = parts.next().ok_or("a case has a line number")?.parse::<usize>()?;
+    let place = parts
+        .next()
+        .ok_or("a case has a line number")?
+        .parse::<usize>()?;
     let lines = parts.next().ok_or("a case has a text")?;
     let text = text_of(rt.alloc(), base, place, lines)?;
     let answer = answer_to(rt.alloc(), plan, text.as_slice())?;
@@ -58,7 +61,12 @@ fn compare(rt: &LibcRuntime, title: &str, answer: &str, due: &str) -> io::Result
 }
 
 // The base text with other bytes in the place of one line; those bytes alone where the place is 0.
-fn text_of(heap: Global, base: &[String], place: usize, lines: &str) -> Result<Vec<u8>, AllocError> {
+fn text_of(
+    heap: Global,
+    base: &[String],
+    place: usize,
+    lines: &str,
+) -> Result<Vec<u8>, AllocError> {
     let mut text = Vec::new(heap);
     if place == 0 {
         add_written(&mut text, lines)?;

@@ -1,6 +1,6 @@
 -- Cutting a text, by steps.
-use mathlib.Core.Path.{_≡_, refl, sym, ap, subst, _∙_}
-use mathlib.Core.Bool.{Bool, true, false, cond}
+use mathlib.Core.Path.{_≡_, sym, ap, subst, _∙_}
+use mathlib.Core.Bool.{true, false, cond}
 use mathlib.Core.List.{List, [], _∷_}
 use Prim.Native.Nat.{ℕ, suc, _+_, _-_, _<_, _≤_}
 use native.Mathlib.Omega.{arith}
@@ -10,7 +10,7 @@ use Rattle.std.specs.declared.option.Option.the-variants.{Some}
 use Rattle.std.proofs.shelf.Equals.{ReadsAt}
 use Rattle.std.proofs.shelf.Lists.{at-drop-more, at-drop-all, length-take-le, take-rest}
 use Rattle.std.proofs.shelf.Sums.{sumBy-cons}
-use Rattle.std.proofs.shelf.Tests.{cases-bool, eq-eqb, ne-eqb, cond-true, cond-false, lt-ltb, le-ltb}
+use Rattle.std.proofs.shelf.Tests.{cases-bool, eq-eqb, ne-eqb, cond-true, cond-false, lt-ltb}
 use mathlib.Core.Logic.{⊎-elim}
 use Rattle.text.specs.Cuts.{at, before, has, howMany}
 use Rattle.text.specs.Keys.{strip}
@@ -37,9 +37,6 @@ at-end c xs i h = at-drop-all (at c) xs i h
 pub shorter : (c : ℕ) (xs l : List ℕ) → l ≡ before c xs → length l < length xs → has c xs ≡ true
 shorter c xs l e h = lt-ltb _ _ (omega (arith, ap length e, length-take-le (at c xs) xs (at-le c xs)))
 
-pub longer : (c : ℕ) (xs l : List ℕ) → l ≡ before c xs → length xs ≤ length l → has c xs ≡ false
-longer c xs l e h = le-ltb _ _ (omega (arith, ap length e, length-take-le (at c xs) xs (at-le c xs)))
-
 strip-from : (p xs : List ℕ) (i : ℕ) → i + length p ≤ length xs → ReadsAt xs i p → Some (drop (i + length p) xs) ≡ strip p (drop i xs)
 strip-from [] xs i h r = ap (λ n. Some (drop n xs)) (omega arith)
 strip-from (c ∷ p) xs i h r =
@@ -64,11 +61,11 @@ counted-has c (x ∷ xs) h =
     ⊎-elim
     (λ (e : eqb x c ≡ true). let z = cond-true (eqb x c) 0 (suc (at c xs)) e in omega arith)
     (λ (e : eqb x c ≡ false).
-        let z = cond-false (eqb x c) 0 (suc (at c xs)) e in
-        let n = count-cons c x xs in
-        let t : cond {A = ℕ} (eqb x c) 1 0 ≡ 0 = cond-false _ _ _ e in
-        let r = counted-has c xs (omega arith) in
-        omega arith)
+    let z = cond-false (eqb x c) 0 (suc (at c xs)) e in
+    let n = count-cons c x xs in
+    let t : cond {A = ℕ} (eqb x c) 1 0 ≡ 0 = cond-false _ _ _ e in
+    let r = counted-has c xs (omega arith) in
+    omega arith)
     (cases-bool (eqb x c))
 
 pub none-counted : (c : ℕ) (xs : List ℕ) → howMany c xs ≤ 0 → length xs ≤ at c xs
@@ -77,13 +74,13 @@ none-counted c [] h = omega arith
 none-counted c (x ∷ xs) h =
     ⊎-elim
     (λ (e : eqb x c ≡ true).
-        let n = count-cons c x xs in
-        let t : cond {A = ℕ} (eqb x c) 1 0 ≡ 1 = cond-true _ _ _ e in
-        absurd (omega arith))
+    let n = count-cons c x xs in
+    let t : cond {A = ℕ} (eqb x c) 1 0 ≡ 1 = cond-true _ _ _ e in
+    absurd (omega arith))
     (λ (e : eqb x c ≡ false).
-        let z = cond-false (eqb x c) 0 (suc (at c xs)) e in
-        let n = count-cons c x xs in
-        let t : cond {A = ℕ} (eqb x c) 1 0 ≡ 0 = cond-false _ _ _ e in
-        let r = none-counted c xs (omega arith) in
-        omega arith)
+    let z = cond-false (eqb x c) 0 (suc (at c xs)) e in
+    let n = count-cons c x xs in
+    let t : cond {A = ℕ} (eqb x c) 1 0 ≡ 0 = cond-false _ _ _ e in
+    let r = none-counted c xs (omega arith) in
+    omega arith)
     (cases-bool (eqb x c))

@@ -1,11 +1,11 @@
 -- Numerals, digit by digit.
-use mathlib.Core.Path.{_≡_, refl, sym, ap, _∙_}
+use mathlib.Core.Path.{_≡_, refl, sym, _∙_}
 use mathlib.Core.Bool.{Bool, true, false, cond}
-use mathlib.Core.List.{List, [], _∷_, _++_}
+use mathlib.Core.List.{List, [], _∷_}
 use Prim.Native.Nat.{ℕ, suc, _+_, _-_, _*_, _<_, _≤_}
 use native.Mathlib.Omega.{arith}
-use lib.Dec.{eqb, ltb, leb}
-use lib.ListN.{length, take, drop, getD}
+use lib.Dec.{eqb, ltb}
+use lib.ListN.{length, drop, getD}
 use Rattle.std.proofs.shelf.Lists.{at-drop-more, at-drop-all}
 use Rattle.std.proofs.shelf.Tests.{eq-eqb, ne-eqb, cond-true, cond-false}
 use mathlib.Core.Bool.{_&&_}
@@ -17,7 +17,6 @@ use Rattle.std.specs.declared.option.Option.{Option}
 use Rattle.std.specs.declared.option.Option.the-variants.{Some, None}
 use Rattle.std.proofs.shelf.Tests.{cases-lt, le-leb, lt-leb, and-from, and-left, and-right, lt-ltb, le-ltb}
 use Rattle.text.specs.Numerals.{digitsFrom, numeralIn}
-
 
 pub digit-on : (n : ℕ) (xs : List ℕ) (i : ℕ) → i < length xs → 48 ≤ getD xs i 0 → getD xs i 0 ≤ 57 → digitsFrom n (drop i xs) ≡ digitsFrom (n * 10 + (getD xs i 0 - 48)) (drop (i + 1) xs)
 unfolding digitsFrom

@@ -7,15 +7,14 @@ use Prim.Native.Nat.{ℕ, suc, _+_, _-_, _<_, _≤_}
 use native.Mathlib.Omega.{arith}
 use borrow.Author.Needs.{needs}
 use lib.Chars.{codes}
-use lib.Dec.{eqb, ltb, leb}
-use lib.ListN.{length, take, drop, getD}
+use lib.Dec.{eqb, ltb}
+use lib.ListN.{length, take, drop}
 use Rattle.std.specs.shelf.Text.{sameBytes}
 use Rattle.std.specs.shelf.Lists.{All}
 use Rattle.std.specs.declared.option.Option.{Option}
 use Rattle.std.specs.declared.option.Option.the-variants.{Some, None}
-use Rattle.std.specs.declared.result.Result.{Result}
 use Rattle.std.specs.declared.result.Result.the-variants.{Ok, Err}
-use Rattle.std.proofs.shelf.Tests.{cases-bool, eqb-true, eqb-false, eq-eqb, ne-eqb, cond-true, cond-false, lt-ltb, le-ltb, ltb-true, ltb-false, cases-lt}
+use Rattle.std.proofs.shelf.Tests.{cases-bool, eqb-true, ne-eqb, cond-true, cond-false, lt-ltb, le-ltb, cases-lt}
 use Rattle.faults.specs.declared.fault.LineFault.the-variants.{Missing}
 use Rattle.faults.specs.declared.fault.LineFault.the-variants as fault
 use Rattle.text.specs.declared.keys.Key.{Key}
@@ -45,15 +44,15 @@ cut-suc c x n k xs =
     let less = sym (ltb-suc n (length xs)) in
     let left : drop (n + 1) xs ≡ drop (suc n + 1) (x ∷ xs) = let e : suc n + 1 ≡ suc (n + 1) = omega arith in ap (λ m. drop m (x ∷ xs)) (sym e) in
     nest (ltb n (length xs)) (eqb x c) (sameBytes (take n xs) k) (Some (drop (n + 1) xs))
-  ∙ (λ i. cond (less i) (cond (eqb x c && sameBytes (take n xs) k) (Some (left i)) None) None)
+    ∙ (λ i. cond (less i) (cond (eqb x c && sameBytes (take n xs) k) (Some (left i)) None) None)
 
 pub key-strip : (k xs : List ℕ) → All (λ c. c ≡ 61 → ⊥) k → strip (k ++ 61 ∷ []) xs ≡ cutAs k xs (at 61 xs)
 unfolding at
 key-strip [] [] h = refl
 key-strip [] (x ∷ xs) h =
     elim (eqb x 61) as (λ b. cond b (Some xs) None ≡ cutAs [] (x ∷ xs) (cond b 0 (suc (at 61 xs)))) [
-      true ↦ sym (cond-true _ _ _ (lt-ltb 0 (suc (length xs)) (omega arith)))
-    | false ↦ none-both _
+      | true ↦ sym (cond-true _ _ _ (lt-ltb 0 (suc (length xs)) (omega arith)))
+      | false ↦ none-both _
     ]
 key-strip (c ∷ k) [] h = refl
 key-strip (c ∷ k) (x ∷ xs) h =

@@ -44,5 +44,9 @@ fn after(text: &[u8], place: usize) -> &[u8]
     requires { ⌜ place ≤ length (now text) ⌝ }
     ensures { λ r. ⌜ now r ≡ drop (place + 1) (now (text .entry)) ⌝ }
 {
-    if place < text.len() { &text[place + 1..] } else { &text[place..] }
+    if place < text.len() {
+        &text[place + 1..]
+    } else {
+        &text[place..]
+    }
 }

@@ -61,10 +61,11 @@ gate-step : (gs hs : List GateLine) (k : ℕ) (text : List ℕ) → nextGate gs 
 gate-step gs hs k text e =
     let p = then-ok (gateLine k text) _ hs e in
     let b = gate-line-back k text (p .0) (p .1) in
-    let more = ok-ok (p .2) in
-    (joined-on gateText gs (p .0) text (past 10 text) (b .0) ∙ ap (λ l. joined gateText l ++ past 10 text) more,
-     ap length (sym more) ∙ length-push gs (p .0),
-     λ h. subst (All GateFits) more (all-push GateFits gs (p .0) h (b .1, b .2)))
+    let more = ok-ok (p .2) in (
+      joined-on gateText gs (p .0) text (past 10 text) (b .0) ∙ ap (λ l. joined gateText l ++ past 10 text) more,
+      ap length (sym more) ∙ length-push gs (p .0),
+      λ h. subst (All GateFits) more (all-push GateFits gs (p .0) h (b .1, b .2)),
+    )
 
 gates-back : (cycle n : ℕ) (text : List ℕ) (gs : List GateLine) → gatesListed cycle n text ≡ Ok gs →
     (text ≡ joined gateText gs ++ skip n text) × (length gs ≡ n) × All GateFits gs × (total gs ≡ cycle)
@@ -85,10 +86,11 @@ class-step : (cs ds : List ClassEntry) (k : ℕ) (text : List ℕ) → nextClass
 class-step cs ds k text e =
     let p = then-ok (classLine k (7 - length cs) text) _ ds e in
     let b = class-line-back k (7 - length cs) text (p .0) (p .1) in
-    let more = ok-ok (p .2) in
-    (ap (λ l. classTexts cs ++ l) (b .0) ∙ sym (append-assoc (classTexts cs) (classText (7 - length cs) (p .0)) (past 10 text)) ∙ ap (λ l. classTexts l ++ past 10 text) more,
-     (let l = ap length more in omega arith),
-     λ h. subst (All SizesFit) more (b .1, h))
+    let more = ok-ok (p .2) in (
+      ap (λ l. classTexts cs ++ l) (b .0) ∙ sym (append-assoc (classTexts cs) (classText (7 - length cs) (p .0)) (past 10 text)) ∙ ap (λ l. classTexts l ++ past 10 text) more,
+      (let l = ap length more in omega arith),
+      λ h. subst (All SizesFit) more (b .1, h),
+    )
 
 classes-back : (k : ℕ) (text : List ℕ) (cs : List ClassEntry) → classesListed k text ≡ Ok cs → (text ≡ classTexts cs ++ skip classes text) × (length cs ≡ classes) × All SizesFit cs
 unfolding classesListed
@@ -106,10 +108,11 @@ flow-step : (cs : List ClassEntry) (fs gs : List FlowEntry) (k : ℕ) (text : Li
 flow-step cs fs gs k text e =
     let p = then-ok (flowLine k cs (placeAfter first fs) text) _ gs e in
     let b = flow-line-back k cs (placeAfter first fs) text (p .0) (p .1) in
-    let more = ok-ok (p .2) in
-    (joined-on flowText fs (p .0) text (past 10 text) (b .0) ∙ ap (λ l. joined flowText l ++ past 10 text) more,
-     ap length (sym more) ∙ length-push fs (p .0),
-     λ h. subst (Ordered cs first) more (ordered-more cs first fs (p .0) h (b .1)))
+    let more = ok-ok (p .2) in (
+      joined-on flowText fs (p .0) text (past 10 text) (b .0) ∙ ap (λ l. joined flowText l ++ past 10 text) more,
+      ap length (sym more) ∙ length-push fs (p .0),
+      λ h. subst (Ordered cs first) more (ordered-more cs first fs (p .0) h (b .1)),
+    )
 
 flows-back : (cs : List ClassEntry) (k : ℕ) (text : List ℕ) (fs : List FlowEntry) → flowsListed cs k text ≡ Ok fs →
     (text ≡ numberText key.Flows (length fs) ++ joined flowText fs) × (length fs ≤ flows-most) × Ordered cs first fs
@@ -129,7 +132,7 @@ flows-back cs k text fs e =
 -- the first three lines
 header-back : (text : List ℕ) (h : Header) → headerIn text ≡ Ok h →
     (text ≡ numberText key.Port (h .port) ++ (numberText key.Cycle (h .cycle) ++ (numberText key.Gates (h .gates) ++ skip 3 text)))
-  × (1 ≤ h .port) × (h .port ≤ port-most) × (h .cycle ≤ cycle-most) × (1 ≤ h .gates) × (h .gates ≤ lines-most)
+    × (1 ≤ h .port) × (h .port ≤ port-most) × (h .cycle ≤ cycle-most) × (1 ≤ h .gates) × (h .gates ≤ lines-most)
 unfolding headerIn skip
 header-back text h e =
     let p = then-ok (numberLine 1 key.Port 1 port-most text) _ h e in
@@ -139,10 +142,10 @@ header-back text h e =
     let b = number-line-back 2 key.Cycle 1 cycle-most (q .0) (past 10 text) (q .1) in
     let c = number-line-back 3 key.Gates 1 lines-most (r .0) (past 10 (past 10 text)) (r .1) in
     let said : Header → Type 0 = λ x.
-        (text ≡ numberText key.Port (x .port) ++ (numberText key.Cycle (x .cycle) ++ (numberText key.Gates (x .gates) ++ skip 3 text)))
-      × (1 ≤ x .port) × (x .port ≤ port-most) × (x .cycle ≤ cycle-most) × (1 ≤ x .gates) × (x .gates ≤ lines-most) in
+    (text ≡ numberText key.Port (x .port) ++ (numberText key.Cycle (x .cycle) ++ (numberText key.Gates (x .gates) ++ skip 3 text)))
+    × (1 ≤ x .port) × (x .port ≤ port-most) × (x .cycle ≤ cycle-most) × (1 ≤ x .gates) × (x .gates ≤ lines-most) in
     subst said (ok-ok (r .2))
-      (a .0 ∙ ap (λ l. numberText key.Port (p .0) ++ l) (b .0 ∙ ap (λ l. numberText key.Cycle (q .0) ++ l) (c .0)), a .1, a .2, b .2, c .1, c .2)
+    (a .0 ∙ ap (λ l. numberText key.Port (p .0) ++ l) (b .0 ∙ ap (λ l. numberText key.Cycle (q .0) ++ l) (c .0)), a .1, a .2, b .2, c .1, c .2)
 
 -- gate lines of at least a tick each, which add up to the cycle, are a gate list
 lawful : (gs : List GateLine) (cycle : ℕ) → All GateFits gs → total gs ≡ cycle → 1 ≤ length gs → length gs ≤ lines-most → cycle ≤ cycle-most → Lawful gs cycle
@@ -164,11 +167,19 @@ whole text h gs cs fs p q r t =
     let long = b .1 in
     let some = a .4 in
     let few = a .5 in
-    let listed = b .0 ∙ ap (λ l. joined gateText gs ++ l) (c .0 ∙ ap (λ l. classTexts cs ++ l) (d .0)) in
-    (record { port-low = a .1; port-high = a .2; lines = lawful gs (h .cycle) (b .2) (b .3) (omega arith) (omega arith) (a .3);
-              letters-all = all-weaker GateFits (λ g. length (g .gates) ≡ classes) (λ g f. f .1) gs (b .2);
-              classes-all = c .1; sizes = c .2; flows-few = d .1; flows = d .2 },
-     a .0 ∙ (λ i. numberText key.Port (h .port) ++ (numberText key.Cycle (h .cycle) ++ (numberText key.Gates (sym long i) ++ listed i))))
+    let listed = b .0 ∙ ap (λ l. joined gateText gs ++ l) (c .0 ∙ ap (λ l. classTexts cs ++ l) (d .0)) in (
+      record {
+        port-low = a .1;
+        port-high = a .2;
+        lines = lawful gs (h .cycle) (b .2) (b .3) (omega arith) (omega arith) (a .3);
+        letters-all = all-weaker GateFits (λ g. length (g .gates) ≡ classes) (λ g f. f .1) gs (b .2);
+        classes-all = c .1;
+        sizes = c .2;
+        flows-few = d .1;
+        flows = d .2;
+      },
+      a .0 ∙ (λ i. numberText key.Port (h .port) ++ (numberText key.Cycle (h .cycle) ++ (numberText key.Gates (sym long i) ++ listed i))),
+    )
 
 lines-back : (text : List ℕ) (s : Said) → readLines text ≡ Ok s → Sound s × (text ≡ write s)
 unfolding readLines

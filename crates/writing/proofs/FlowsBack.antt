@@ -35,8 +35,8 @@ kind-back k (x ∷ []) t e =
     ⊎-elim
     (λ (h : eqb x 98 ≡ true). ap (λ y. y ∷ []) (eqb-true x 98 h) ∙ ap (λ u. kindLetter u ∷ []) (ok-ok (sym (cond-true _ _ _ h) ∙ e)))
     (λ (h : eqb x 98 ≡ false).
-        let p = cond-ok (eqb x 112) (Ok Periodic) _ t (sym (cond-false _ _ _ h) ∙ e) in
-        ap (λ y. y ∷ []) (eqb-true x 112 (p .0)) ∙ ap (λ u. kindLetter u ∷ []) (ok-ok (p .1)))
+    let p = cond-ok (eqb x 112) (Ok Periodic) _ t (sym (cond-false _ _ _ h) ∙ e) in
+    ap (λ y. y ∷ []) (eqb-true x 112 (p .0)) ∙ ap (λ u. kindLetter u ∷ []) (ok-ok (p .1)))
     (cases-bool (eqb x 98))
 kind-back k (x ∷ y ∷ xs) t e = absurd (err-ok e)
 
@@ -55,9 +55,11 @@ bucket-back k m v f h e =
     let b = cut (past 44 v) 0 (a .1) in
     let n = numeral-field-back k (q .0) (before 44 (past 44 v)) (q .1) in
     let c = last-back k 1 rate-ticks-most (r .0) (past 44 (past 44 v)) (r .1) (b .1) in
-    subst (FlowBy Bucket m v) (ok-ok (s .1))
-      (ap (λ x. 98 ∷ 44 ∷ x) (a .0 ∙ ap (field (p .0)) (b .0 ∙ (λ i. n i ++ (44 ∷ c .0 i)))), refl,
-       record { burst-low = a .2; burst-high = a .3; den-low = c .1; den-high = c .2; num-high = leb-true (q .0) (r .0) (s .0) })
+    subst (FlowBy Bucket m v) (ok-ok (s .1)) (
+      ap (λ x. 98 ∷ 44 ∷ x) (a .0 ∙ ap (field (p .0)) (b .0 ∙ (λ i. n i ++ (44 ∷ c .0 i)))),
+      refl,
+      record { burst-low = a .2; burst-high = a .3; den-low = c .1; den-high = c .2; num-high = leb-true (q .0) (r .0) (s .0) },
+    )
 
 periodic-back : (k m : ℕ) (v : List ℕ) (f : Flow) → howMany 44 v ≡ 2 → periodicIn k m v ≡ Ok f → FlowBy Periodic m v f
 unfolding periodicIn
@@ -69,7 +71,7 @@ periodic-back k m v f h e =
     let b = field-back k 1 period-most (q .0) (past 44 v) (q .1) 0 (a .1) in
     let c = last-back k 0 jitter-most (r .0) (past 44 (past 44 v)) (r .1) (b .1) in
     subst (FlowBy Periodic m v) (ok-ok (r .2))
-      (ap (λ x. 112 ∷ 44 ∷ x) (a .0 ∙ ap (field (p .0)) (b .0 ∙ ap (field (q .0)) (c .0))), refl, (a .2, a .3, b .2, b .3, c .2))
+    (ap (λ x. 112 ∷ 44 ∷ x) (a .0 ∙ ap (field (p .0)) (b .0 ∙ ap (field (q .0)) (c .0))), refl, (a .2, a .3, b .2, b .3, c .2))
 
 flow-in-back : (k : ℕ) (t : Kind) (m : ℕ) (v : List ℕ) (f : Flow) → howMany 44 v ≡ 2 → flowIn k t m v ≡ Ok f → FlowBy t m v f
 flow-in-back k Bucket m v f h e = bucket-back k m v f h e
@@ -96,12 +98,13 @@ flow-line-back k cs prior text f e =
     let z = then-ok (inField (flowIn k t (largestOf cs c) (past 44 (past 44 v)))) _ f (o .1) in
     let w = flow-in-back k t (largestOf cs c) (past 44 (past 44 v)) (z .0) (a .1) (within-ok _ _ (z .0) (z .1)) in
     let order : c ≡ prior .class → kindAfter (prior .kind) t ≡ true = λ same.
-        ⊎-elim
-        (λ (h : ltb c (prior .class) ≡ true). let l = ltb-true c (prior .class) h in absurd (omega arith))
-        (λ (h : kindAfter (prior .kind) t ≡ true). h)
-        (or-cases (ltb c (prior .class)) (kindAfter (prior .kind) t) (o .0)) in
+    ⊎-elim
+    (λ (h : ltb c (prior .class) ≡ true). let l = ltb-true c (prior .class) h in absurd (omega arith))
+    (λ (h : kindAfter (prior .kind) t ≡ true). h)
+    (or-cases (ltb c (prior .class)) (kindAfter (prior .kind) t) (o .0)) in
     let fields = b .0 ∙ ap (field c) (a .0 ∙ ap (λ x. x ++ (44 ∷ past 44 (past 44 v))) letter-is ∙ w .0) in
     let said : FlowEntry → Type 0 = λ x. (text ≡ flowText x ++ past 10 text) × FlowFits cs prior x in
-    subst said (ok-ok (z .2))
-      (d .0 ∙ ap (λ x. lineOf key.Flow x ++ past 10 text) fields,
-       record { falls = leb-true c (prior .class) (may .0); sends = ltb-true 0 (largestOf cs c) (may .1); kinds = λ same. ap (kindAfter (prior .kind)) (w .1) ∙ order same; numbers = w .2 })
+    subst said (ok-ok (z .2)) (
+      d .0 ∙ ap (λ x. lineOf key.Flow x ++ past 10 text) fields,
+      record { falls = leb-true c (prior .class) (may .0); sends = ltb-true 0 (largestOf cs c) (may .1); kinds = λ same. ap (kindAfter (prior .kind)) (w .1) ∙ order same; numbers = w .2 },
+    )

@@ -61,9 +61,9 @@ module _ (burst num den : ℕ) (r : BucketRange burst num den) where
   unfolding bucketIn
   bucket-in k =
       then-goes _ (ap (numberField k burst-least burst-most) (field-before burst a-small _) ∙ number-field burst a-small k burst-least burst-most (r .burst-low) (r .burst-high))
-        (then-goes _ (ap (numeralField k) (second burst num den a-small n-small t-small) ∙ numeral-field num n-small k)
-          (then-goes _ (ap (numberField k 1 rate-ticks-most) (third burst num den a-small n-small t-small) ∙ number-field den t-small k 1 rate-ticks-most (r .den-low) (r .den-high))
-            (cond-true _ _ _ (le-leb num den (r .num-high)))))
+      (then-goes _ (ap (numeralField k) (second burst num den a-small n-small t-small) ∙ numeral-field num n-small k)
+      (then-goes _ (ap (numberField k 1 rate-ticks-most) (third burst num den a-small n-small t-small) ∙ number-field den t-small k 1 rate-ticks-most (r .den-low) (r .den-high))
+      (cond-true _ _ _ (le-leb num den (r .num-high)))))
 
 -- the numbers of a periodic flow, each in its range
 module _ (m bytes period jitter : ℕ) (most : m ≤ frame-most) (r : FlowRange m (periodic bytes period jitter)) where
@@ -80,8 +80,8 @@ module _ (m bytes period jitter : ℕ) (most : m ≤ frame-most) (r : FlowRange 
   unfolding periodicIn
   periodic-in k =
       then-goes _ (ap (numberField k frame-least m) (field-before bytes b-small _) ∙ number-field bytes b-small k frame-least m (r .0) (r .1))
-        (then-goes _ (ap (numberField k 1 period-most) (second bytes period jitter b-small p-small j-small) ∙ number-field period p-small k 1 period-most (r .2) (r .3))
-          (then-goes _ (ap (numberField k 0 jitter-most) (third bytes period jitter b-small p-small j-small) ∙ number-field jitter j-small k 0 jitter-most (omega arith) (r .4)) refl))
+      (then-goes _ (ap (numberField k 1 period-most) (second bytes period jitter b-small p-small j-small) ∙ number-field period p-small k 1 period-most (r .2) (r .3))
+      (then-goes _ (ap (numberField k 0 jitter-most) (third bytes period jitter b-small p-small j-small) ∙ number-field jitter j-small k 0 jitter-most (omega arith) (r .4)) refl))
 
 -- the fields of a flow of either kind
 flow-lacks : (m : ℕ) (x : Flow) → m ≤ frame-most → FlowRange m x → Lacks 10 (flowFields x)
@@ -132,8 +132,8 @@ module _ (cs : List ClassEntry) (p : Place) (f : FlowEntry) (rest : List ℕ) (h
   flow-line k =
       let e = field-past (f .class) c-small (flowFields (f .flow)) in
       then-goes _ (within-goes _ (due-line key.Flow fields rest lacks k 4 counts))
-        (then-goes _ (within-goes _ (ap (numberField k 0 7) (field-before _ c-small _) ∙ number-field _ c-small k 0 7 (omega arith) flow-class))
-          (cond-true _ _ _ (and-from _ _ (le-leb _ _ (fit .falls)) (lt-ltb 0 _ (fit .sends)))
-          ∙ then-goes _ (within-goes _ (ap (λ l. kindIn k (before 44 l)) e ∙ kind-in k (f .flow)))
-              (cond-true _ _ _ after
-              ∙ then-goes _ (within-goes _ (ap (λ l. flowIn k (kindOf (f .flow)) (largestOf cs (f .class)) (past 44 l)) e ∙ flow-in k _ (f .flow) most (fit .numbers))) refl)))
+      (then-goes _ (within-goes _ (ap (numberField k 0 7) (field-before _ c-small _) ∙ number-field _ c-small k 0 7 (omega arith) flow-class))
+      (cond-true _ _ _ (and-from _ _ (le-leb _ _ (fit .falls)) (lt-ltb 0 _ (fit .sends)))
+      ∙ then-goes _ (within-goes _ (ap (λ l. kindIn k (before 44 l)) e ∙ kind-in k (f .flow)))
+      (cond-true _ _ _ after
+      ∙ then-goes _ (within-goes _ (ap (λ l. flowIn k (kindOf (f .flow)) (largestOf cs (f .class)) (past 44 l)) e ∙ flow-in k _ (f .flow) most (fit .numbers))) refl)))

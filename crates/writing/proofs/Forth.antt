@@ -67,9 +67,10 @@ classes-read (e ∷ es) n k rest h =
     let flat = append-assoc (classTexts es) text rest in
     let r = classes-read es (suc n) k (text ++ rest) (h .1) in
     let next = class-past (7 - length es) e rest (omega arith) (h .0) in
-    let is = class-line (7 - length es) e rest (omega arith) (h .0) (k + length es) in
-    ((λ i. each nextClass (a i) k (flat i) []) ∙ r .0 ∙ each-step nextClass n (k + length es) _ rest es (e ∷ es) (then-goes _ is refl) next ∙ ap (λ j. each nextClass n j rest (e ∷ es)) b,
-     (λ i. skip (a i) (flat i)) ∙ r .1 ∙ skip-step n _ rest next)
+    let is = class-line (7 - length es) e rest (omega arith) (h .0) (k + length es) in (
+      (λ i. each nextClass (a i) k (flat i) []) ∙ r .0 ∙ each-step nextClass n (k + length es) _ rest es (e ∷ es) (then-goes _ is refl) next ∙ ap (λ j. each nextClass n j rest (e ∷ es)) b,
+      (λ i. skip (a i) (flat i)) ∙ r .1 ∙ skip-step n _ rest next,
+    )
 
 place-last : (p : Place) (fs : List FlowEntry) (f : FlowEntry) → placeAfter p (fs ++ f ∷ []) ≡ entryPlace f
 place-last p [] f = refl
@@ -132,10 +133,10 @@ module _ (s : Said) (sound : Sound s) where
   unfolding headerIn
   header-read =
       then-goes _ (number-line key.Port (s .port) from-cycle (omega (arith, sound .port-high)) 1 1 port-most (sound .port-low) (sound .port-high))
-        (then-goes _ (ap (numberLine 2 key.Cycle 1 cycle-most) past-port
-          ∙ number-line key.Cycle (s .cycle) from-count (omega (arith, sound .lines .most)) 2 1 cycle-most cycle-low (sound .lines .most))
-          (then-goes _ (ap (numberLine 3 key.Gates 1 lines-most) past-cycle
-            ∙ number-line key.Gates lines from-gates (omega (arith, sound .lines .few)) 3 1 lines-most (sound .lines .some) (sound .lines .few)) refl))
+      (then-goes _ (ap (numberLine 2 key.Cycle 1 cycle-most) past-port
+      ∙ number-line key.Cycle (s .cycle) from-count (omega (arith, sound .lines .most)) 2 1 cycle-most cycle-low (sound .lines .most))
+      (then-goes _ (ap (numberLine 3 key.Gates 1 lines-most) past-cycle
+      ∙ number-line key.Gates lines from-gates (omega (arith, sound .lines .few)) 3 1 lines-most (sound .lines .some) (sound .lines .few)) refl))
 
   ticks : (i : ℕ) → i < lines → (1 ≤ line (s .gates) i .length .0) × (line (s .gates) i .length .0 ≤ cycle-most)
   ticks i l = (sound .lines .each i l, omega (arith, line-most (s .gates) i l, sound .lines .together, sound .lines .most))
@@ -171,17 +172,17 @@ module _ (s : Said) (sound : Sound s) where
   unfolding flowsListed
   flows-listed k =
       then-goes _ (within-goes _ (number-line key.Flows entries (joined flowText (s .flows)) few k 0 flows-most (omega arith) (sound .flows-few)))
-        (then-goes _ (ap (λ x. each (nextFlow (s .classes)) entries (k + 1) x []) past-number ∙ flow-lines (k + 1) .0)
-          (cond-true _ _ _ (eq-eqb _ 0 (ap length (ap (skip entries) past-number ∙ flow-lines k .1)))))
+      (then-goes _ (ap (λ x. each (nextFlow (s .classes)) entries (k + 1) x []) past-number ∙ flow-lines (k + 1) .0)
+      (cond-true _ _ _ (eq-eqb _ 0 (ap length (ap (skip entries) past-number ∙ flow-lines k .1)))))
 
   lines-read : readLines from-port ≡ Ok s
   unfolding readLines
   lines-read =
       let to-classes = ap (skip lines) past-count ∙ past-gates in
       then-goes _ (within-goes _ header-read)
-        (then-goes _ (ap (gatesListed (s .cycle) lines) past-count ∙ gates-listed)
-          (then-goes _ (ap (classesListed (4 + lines)) to-classes ∙ classes-listed (4 + lines))
-            (then-goes _ (ap (flowsListed (s .classes) (12 + lines)) (ap (skip classes) to-classes ∙ past-classes) ∙ flows-listed (12 + lines)) refl)))
+      (then-goes _ (ap (gatesListed (s .cycle) lines) past-count ∙ gates-listed)
+      (then-goes _ (ap (classesListed (4 + lines)) to-classes ∙ classes-listed (4 + lines))
+      (then-goes _ (ap (flowsListed (s .classes) (12 + lines)) (ap (skip classes) to-classes ∙ past-classes) ∙ flows-listed (12 + lines)) refl)))
 
   plan-read : length (write s) ≤ text-most → readPlan (write s) ≡ Ok s
   unfolding readPlan write

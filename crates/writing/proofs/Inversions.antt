@@ -129,15 +129,15 @@ past-one c [] m e = absurd (omega arith)
 past-one c (x ∷ xs) m e =
     ⊎-elim
     (λ (h : eqb x c ≡ true).
-        let n = count-cons c x xs in let t : cond {A = ℕ} (eqb x c) 1 0 ≡ 1 = cond-true _ _ _ h in
-        let z = cond-true (eqb x c) 0 (suc (at c xs)) h in
-        let on : at c (x ∷ xs) + 1 ≡ 1 = omega arith in
-        ap (λ n. howMany c (drop n (x ∷ xs))) on ∙ omega arith)
+    let n = count-cons c x xs in let t : cond {A = ℕ} (eqb x c) 1 0 ≡ 1 = cond-true _ _ _ h in
+    let z = cond-true (eqb x c) 0 (suc (at c xs)) h in
+    let on : at c (x ∷ xs) + 1 ≡ 1 = omega arith in
+    ap (λ n. howMany c (drop n (x ∷ xs))) on ∙ omega arith)
     (λ (h : eqb x c ≡ false).
-        let n = count-cons c x xs in let t : cond {A = ℕ} (eqb x c) 1 0 ≡ 0 = cond-false _ _ _ h in
-        let z = cond-false (eqb x c) 0 (suc (at c xs)) h in
-        let on : at c (x ∷ xs) + 1 ≡ suc (at c xs + 1) = omega arith in
-        ap (λ n. howMany c (drop n (x ∷ xs))) on ∙ past-one c xs m (omega arith))
+    let n = count-cons c x xs in let t : cond {A = ℕ} (eqb x c) 1 0 ≡ 0 = cond-false _ _ _ h in
+    let z = cond-false (eqb x c) 0 (suc (at c xs)) h in
+    let on : at c (x ∷ xs) + 1 ≡ suc (at c xs + 1) = omega arith in
+    ap (λ n. howMany c (drop n (x ∷ xs))) on ∙ past-one c xs m (omega arith))
     (cases-bool (eqb x c))
 
 -- fields are cut at the first comma, and the last field has none

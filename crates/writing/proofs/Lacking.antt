@@ -57,7 +57,7 @@ module _ (c : ℕ) (xs ys : List ℕ) (h : Lacks c xs) where
   pub past-join : past c (xs ++ c ∷ ys) ≡ ys
   past-join =
       ap (λ n. drop (n + 1) (xs ++ c ∷ ys)) (at-join c xs ys h) ∙ ap (drop (length xs + 1)) (sym (append-assoc xs (c ∷ []) ys))
-    ∙ drop-at (xs ++ c ∷ []) ys (length xs + 1) (length-push xs c)
+      ∙ drop-at (xs ++ c ∷ []) ys (length xs + 1) (length-push xs c)
 
 pub before-none : (c : ℕ) (xs : List ℕ) → Lacks c xs → before c xs ≡ xs
 before-none c xs h = ap (λ n. take n xs) (at-none c xs h) ∙ take-all (length xs) xs (omega arith)

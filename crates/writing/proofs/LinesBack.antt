@@ -3,7 +3,7 @@ use mathlib.Core.Path.{_≡_, refl, sym, ap, subst, _∙_}
 use mathlib.Core.Bool.{true, false, _&&_}
 use mathlib.Core.Logic.{⊎-elim}
 use mathlib.Core.List.{List, [], _∷_, _++_, map, reverse, reverse-cons}
-use Prim.Native.Nat.{ℕ, suc, _<_, _≤_}
+use Prim.Native.Nat.{ℕ, suc, _≤_}
 use native.Mathlib.Omega.{arith}
 use lib.Dec.{eqb, ltb}
 use lib.ListN.{length}
@@ -13,8 +13,8 @@ use Rattle.std.specs.declared.option.Option.the-variants.{Some}
 use Rattle.std.specs.declared.result.Result.the-variants.{Ok}
 use Rattle.std.proofs.shelf.Equals.{sameBytes-decides}
 use Rattle.std.proofs.shelf.Lists.{append-assoc, append-nil, map-append, length-map, length-reverse}
-use Rattle.std.proofs.shelf.Tests.{cases-bool, cases-lt, eqb-true, eq-eqb, ne-eqb, ltb-false, cond-true, cond-false, and-cases}
-use Rattle.units.specs.Limits.{frame-least, frame-most, depth-most, cycle-most}
+use Rattle.std.proofs.shelf.Tests.{cases-bool, eqb-true, ltb-false, cond-true, cond-false, and-cases}
+use Rattle.units.specs.Limits.{frame-least, frame-most, cycle-most}
 use Rattle.faults.specs.declared.fault.LineFault.the-variants.{Field}
 use Rattle.faults.specs.declared.fault.PlanFault.the-variants.{Line}
 use Rattle.gates.specs.declared.gate_line.Gate.{Gate}
@@ -29,6 +29,7 @@ use Rattle.reader.specs.Chain.{within}
 use Rattle.reader.specs.Said.{Flow, ClassEntry}
 use Rattle.reader.specs.Fields.{numberField, largestField, lettersFrom, gatesIn, gateIn, roomMost, sizesIn}
 use Rattle.reader.specs.Entries.{lineAt, dueLine, inField, numberLine, gateLine, classLine}
+use Rattle.reader.proofs.Checked.{in-room}
 use Rattle.writing.specs.Written.{lineOf, numberText, field, letter, letters, gateText, classText}
 use Rattle.writing.proofs.Inversions.{ok-ok, then-ok, within-ok, or-ok, cond-ok, cond-ok-not, cond-some, number-back, has-cut, cut, last}
 
@@ -57,9 +58,10 @@ due-back k due commas text v e =
     let r = cond-ok (eqb (howMany 44 (q .0)) commas) _ _ v (q .2) in
     let here = cond-ok (has 10 text) _ _ (p .0) (p .1) in
     let same = ok-ok (r .1) in
-    let whole = value-back k due (p .0) (q .0) (q .1) in
-    (has-cut 10 text (here .0) ∙ ap (λ x. x ++ (10 ∷ past 10 text)) (ok-ok (here .1) ∙ whole) ∙ sym (append-assoc (word due ++ q .0) (10 ∷ []) (past 10 text)) ∙ ap (λ x. lineOf due x ++ past 10 text) same,
-     ap (howMany 44) (sym same) ∙ eqb-true _ commas (r .0))
+    let whole = value-back k due (p .0) (q .0) (q .1) in (
+      has-cut 10 text (here .0) ∙ ap (λ x. x ++ (10 ∷ past 10 text)) (ok-ok (here .1) ∙ whole) ∙ sym (append-assoc (word due ++ q .0) (10 ∷ []) (past 10 text)) ∙ ap (λ x. lineOf due x ++ past 10 text) same,
+      ap (howMany 44) (sym same) ∙ eqb-true _ commas (r .0),
+    )
 
 -- a number before a comma, and a number that is the last field
 module _ (k least most n : ℕ) (v : List ℕ) (e : numberField k least most (before 44 v) ≡ Ok n) where
@@ -93,10 +95,10 @@ letters-back gs rs [] e = let s : gs ≡ rs = cc in ap letters (sym s) ∙ sym (
 letters-back gs rs (x ∷ xs) e =
     ⊎-elim
     (λ (h : eqb x 79 ≡ true).
-        letters-back (Open ∷ gs) rs xs (sym (cond-true _ _ _ h) ∙ e) ∙ ap (λ l. l ++ xs) (letters-more Open gs) ∙ append-assoc (letters gs) (79 ∷ []) xs ∙ ap (λ y. letters gs ++ (y ∷ xs)) (sym (eqb-true x 79 h)))
+    letters-back (Open ∷ gs) rs xs (sym (cond-true _ _ _ h) ∙ e) ∙ ap (λ l. l ++ xs) (letters-more Open gs) ∙ append-assoc (letters gs) (79 ∷ []) xs ∙ ap (λ y. letters gs ++ (y ∷ xs)) (sym (eqb-true x 79 h)))
     (λ (h : eqb x 79 ≡ false).
-        let p = cond-some (eqb x 67) (lettersFrom (Shut ∷ gs) xs) rs (sym (cond-false _ _ _ h) ∙ e) in
-        letters-back (Shut ∷ gs) rs xs (p .1) ∙ ap (λ l. l ++ xs) (letters-more Shut gs) ∙ append-assoc (letters gs) (67 ∷ []) xs ∙ ap (λ y. letters gs ++ (y ∷ xs)) (sym (eqb-true x 67 (p .0))))
+    let p = cond-some (eqb x 67) (lettersFrom (Shut ∷ gs) xs) rs (sym (cond-false _ _ _ h) ∙ e) in
+    letters-back (Shut ∷ gs) rs xs (p .1) ∙ ap (λ l. l ++ xs) (letters-more Shut gs) ∙ append-assoc (letters gs) (67 ∷ []) xs ∙ ap (λ y. letters gs ++ (y ∷ xs)) (sym (eqb-true x 67 (p .0))))
     (cases-bool (eqb x 79))
 
 gates-in-back : (k : ℕ) (xs : List ℕ) (gs : List Gate) → gatesIn k xs ≡ Ok gs → (xs ≡ letters gs) × (length gs ≡ 8)
@@ -135,18 +137,11 @@ largest-back k n xs e =
     let same = ok-ok (q .1) in
     let most = b .2 in
     let least : 1 ≤ p .0 → frame-least ≤ p .0 = λ h.
-        ⊎-elim
-        (λ (f : ltb 0 (p .0) ≡ false). let l = ltb-false 0 (p .0) f in absurd (omega arith))
-        (λ (f : ltb (p .0) frame-least ≡ false). ltb-false (p .0) frame-least f)
-        (and-cases (ltb 0 (p .0)) (ltb (p .0) frame-least) (q .0)) in
-    (b .0 ∙ ap decimal same, omega arith, λ h. let l = least (omega arith) in omega arith)
-
-sized : (m d : ℕ) → m ≤ frame-most → (1 ≤ m → frame-least ≤ m) → m ≤ d → d ≤ roomMost m → Sized m d
-sized m d most least low high =
     ⊎-elim
-    (λ (h : m < 1). let z : m ≡ 0 = omega arith in let r : roomMost m ≡ 0 = cond-true _ _ _ (eq-eqb m 0 z) in record { most = most; least = least; room = low; deep = omega arith; silent = λ e. omega arith })
-    (λ (h : 1 ≤ m). let r : roomMost m ≡ depth-most = cond-false _ _ _ (ne-eqb m 0 (λ e. omega arith)) in record { most = most; least = least; room = low; deep = omega arith; silent = λ e. absurd (omega arith) })
-    (cases-lt m 1)
+    (λ (f : ltb 0 (p .0) ≡ false). let l = ltb-false 0 (p .0) f in absurd (omega arith))
+    (λ (f : ltb (p .0) frame-least ≡ false). ltb-false (p .0) frame-least f)
+    (and-cases (ltb 0 (p .0)) (ltb (p .0) frame-least) (q .0)) in
+    (b .0 ∙ ap decimal same, omega arith, λ h. let l = least (omega arith) in omega arith)
 
 sizes-back : (k : ℕ) (v : List ℕ) (c : ClassEntry) → howMany 44 v ≡ 1 → sizesIn k v ≡ Ok c → (v ≡ field (c .largest) (decimal (c .depth))) × Sized (c .largest) (c .depth)
 unfolding sizesIn
@@ -157,7 +152,7 @@ sizes-back k v c h e =
     let m = largest-back k (p .0) (before 44 v) (p .1) in
     let d = last-back k (p .0) (roomMost (p .0)) (q .0) (past 44 v) (q .1) (a .1) in
     let said : ClassEntry → Type 0 = λ x. (v ≡ field (x .largest) (decimal (x .depth))) × Sized (x .largest) (x .depth) in
-    subst said (ok-ok (q .2)) (a .0 ∙ (λ i. m .0 i ++ (44 ∷ d .0 i)), sized (p .0) (q .0) (m .1) (m .2) (d .1) (d .2))
+    subst said (ok-ok (q .2)) (a .0 ∙ (λ i. m .0 i ++ (44 ∷ d .0 i)), in-room (p .0) (q .0) (m .1) (m .2) (d .1) (d .2))
 
 -- the class that is read is the due one
 pub class-line-back : (k c : ℕ) (text : List ℕ) (x : ClassEntry) → classLine k c text ≡ Ok x → (text ≡ classText c x ++ past 10 text) × Sized (x .largest) (x .depth)

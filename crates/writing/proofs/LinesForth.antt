@@ -81,7 +81,7 @@ module _ (due : Key) (n : ℕ) (rest : List ℕ) (h : n < 10000000) where
   unfolding numberLine
   number-line k least most low high =
       then-goes _ (due-line due (decimal n) rest (decimal-lacks n h 10 (omega arith)) k 0 (alone-counts n h))
-        (within-goes _ (ap (numberField k least most) (field-alone n h) ∙ number-field n h k least most low high))
+      (within-goes _ (ap (numberField k least most) (field-alone n h) ∙ number-field n h k least most low high))
 
 letters-lack : (c : ℕ) (gs : List Gate) → (79 ≡ c → ⊥) → (67 ≡ c → ⊥) → Lacks c (map letter gs)
 letters-lack c [] h k = tt
@@ -99,7 +99,7 @@ gates-in : (k : ℕ) (gs : List Gate) → length gs ≡ classes → gatesIn k (l
 unfolding gatesIn
 gates-in k gs h =
     cond-true _ _ _ (eq-eqb _ classes (length-map (reverse gs) letter ∙ length-reverse gs ∙ h))
-  ∙ ap (λ o. okOr o (Form k)) (letters-read [] (reverse gs) ∙ ap Some (reverse-reverse gs))
+    ∙ ap (λ o. okOr o (Form k)) (letters-read [] (reverse gs) ∙ ap Some (reverse-reverse gs))
 
 -- a gate line is read as its length and its gates
 module _ (g : GateLine) (rest : List ℕ) (low : 1 ≤ g .length .0) (high : g .length .0 ≤ cycle-most) where
@@ -122,7 +122,7 @@ module _ (g : GateLine) (rest : List ℕ) (low : 1 ≤ g .length .0) (high : g .
       let h : g .length .0 < 10000000 = omega arith in
       let l = before-none 44 ls (letters-lack 44 (reverse (g .gates)) (λ e. omega arith) (λ e. omega arith)) in
       then-goes _ (ap (numberField k 1 cycle-most) (field-before _ h ls) ∙ number-field _ h k 1 cycle-most low high)
-        (then-goes _ (ap (gatesIn k) (ap (before 44) (field-past _ h ls) ∙ l) ∙ gates-in k (g .gates) eight) refl)
+      (then-goes _ (ap (gatesIn k) (ap (before 44) (field-past _ h ls) ∙ l) ∙ gates-in k (g .gates) eight) refl)
 
   pub gate-line : (k : ℕ) → length (g .gates) ≡ classes → gateLine k (gateText g ++ rest) ≡ Ok g
   unfolding gateLine
@@ -184,12 +184,12 @@ module _ (c : ℕ) (e : ClassEntry) (rest : List ℕ) (h : c ≤ 7) (s : Sized (
   unfolding sizesIn
   sizes-in k =
       then-goes _ (ap (largestField k) (field-before _ m-small _) ∙ largest-field k)
-        (then-goes _ (ap (numberField k (e .largest) (roomMost (e .largest))) (ap (before 44) (field-past _ m-small _) ∙ field-alone _ d-small)
-          ∙ number-field _ d-small k (e .largest) _ (s .room) (room-high _ _ s)) refl)
+      (then-goes _ (ap (numberField k (e .largest) (roomMost (e .largest))) (ap (before 44) (field-past _ m-small _) ∙ field-alone _ d-small)
+      ∙ number-field _ d-small k (e .largest) _ (s .room) (room-high _ _ s)) refl)
 
   pub class-line : (k : ℕ) → classLine k c (classText c e ++ rest) ≡ Ok e
   unfolding classLine
   class-line k =
       then-goes _ (within-goes _ (due-line key.Class classFields rest class-lacks k 2 class-counts))
-        (then-goes _ (within-goes _ (ap (numberField k 0 7) (field-before c (omega arith) _) ∙ number-field c (omega arith) k 0 7 (omega arith) h))
-          (cond-true _ _ _ (eq-eqb c c refl) ∙ within-goes _ (ap (sizesIn k) (field-past c (omega arith) _) ∙ sizes-in k)))
+      (then-goes _ (within-goes _ (ap (numberField k 0 7) (field-before c (omega arith) _) ∙ number-field c (omega arith) k 0 7 (omega arith) h))
+      (cond-true _ _ _ (eq-eqb c c refl) ∙ within-goes _ (ap (sizesIn k) (field-past c (omega arith) _) ∙ sizes-in k)))

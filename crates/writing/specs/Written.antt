@@ -63,7 +63,7 @@ flowText f = lineOf key.Flow (field (f .class) (flowFields (f .flow)))
 unfoldable pub write : Said → List ℕ
 write s =
     numberText key.Port (s .port) ++ (numberText key.Cycle (s .cycle) ++ (numberText key.Gates (length (s .gates)) ++ (joined gateText (s .gates)
- ++ (classTexts (s .classes) ++ (numberText key.Flows (length (s .flows)) ++ joined flowText (s .flows))))))
+    ++ (classTexts (s .classes) ++ (numberText key.Flows (length (s .flows)) ++ joined flowText (s .flows))))))
 
 -- the numbers of a flow in a class with the largest frame m
 abbrev pub FlowRange : ℕ → Flow → Type 0

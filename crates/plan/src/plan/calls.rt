@@ -38,7 +38,13 @@ impl Plan {
     {
         let gates = GateList::shut(heap)?;
         let flows = arrange(heap, &[])?;
-        Ok(Plan { heap, port: 1, gates, classes: [TrafficClass::silent(); 8], flows })
+        Ok(Plan {
+            heap,
+            port: 1,
+            gates,
+            classes: [TrafficClass::silent(); 8],
+            flows,
+        })
     }
 
     // The plan becomes the one that the text says. On a fault, or for want of memory, it stays as it was.
@@ -58,7 +64,13 @@ impl Plan {
         ensures { λ r. ⌜ made r (λ p. told p ≡ arranged (saidBy contents)) ⌝ }
     {
         let flows = arrange(heap, contents.flows.as_slice())?;
-        Ok(Plan { heap, port: contents.port, gates: contents.gates, classes: contents.classes, flows })
+        Ok(Plan {
+            heap,
+            port: contents.port,
+            gates: contents.gates,
+            classes: contents.classes,
+            flows,
+        })
     }
 
     // The number of the port.

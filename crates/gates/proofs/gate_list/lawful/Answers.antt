@@ -16,8 +16,8 @@ returns-then-line-lt1 c =
     let at = c .loop-line .line-index in
     let lt = c .loop-line-test .taken in
     elim (c .then-line-lt1 .came) [
-      then-line-lt1·by·then-line-lt1 w ↦ refuted _ (λ law. omega (arith, law .each at lt, w .if-line-lt1 .taken))
-    | then-line-lt1·by·else-line-lt1·then-line-gt-MAX-CYCLE w ↦ refuted _ (λ law. omega (arith, line-most (c .args .lines .now) at lt, law .together, law .most, w .if-line-gt-MAX-CYCLE .taken))
+      | then-line-lt1·by·then-line-lt1 w ↦ refuted _ (λ law. omega (arith, law .each at lt, w .if-line-lt1 .taken))
+      | then-line-lt1·by·else-line-lt1·then-line-gt-MAX-CYCLE w ↦ refuted _ (λ law. omega (arith, line-most (c .args .lines .now) at lt, law .together, law .most, w .if-line-gt-MAX-CYCLE .taken))
     ]
 
 pub loop-line-again : need.loop-line-again
@@ -27,6 +27,7 @@ loop-line-again c =
 
 pub returns : need.returns
 returns c =
-    let all = start-all (c .args .lines .now) (c .loop-line .line-index) (c .loop-line-test .left) in
-    ((λ e. record { each = λ i h. c .loop-line .inv .1 i (omega (arith, h)); together = sym all ∙ sym (c .loop-line .inv .0) ∙ eqb-true _ _ e; some = omega arith; few = omega arith; most = omega arith }),
-     (λ law. eq-eqb _ _ (c .loop-line .inv .0 ∙ all ∙ law .together)))
+    let all = start-all (c .args .lines .now) (c .loop-line .line-index) (c .loop-line-test .left) in (
+      (λ e. record { each = λ i h. c .loop-line .inv .1 i (omega (arith, h)); together = sym all ∙ sym (c .loop-line .inv .0) ∙ eqb-true _ _ e; some = omega arith; few = omega arith; most = omega arith }),
+      (λ law. eq-eqb _ _ (c .loop-line .inv .0 ∙ all ∙ law .together)),
+    )

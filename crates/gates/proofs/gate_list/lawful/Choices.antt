@@ -1,5 +1,6 @@
 use mathlib.Core.Path.{_≡_}
 use Prim.Native.Nat.{ℕ, _<_, _≤_, _*_}
+use Rattle.units.specs.Limits.{cycle-most}
 use Rattle.gates.specs.Opened.{line, start}
 use Rattle.gates.proofs.gate_list.lawful.Given as given
 
@@ -7,5 +8,5 @@ use Rattle.gates.proofs.gate_list.lawful.Given as given
 abbrev pub Inv-loop-line : given.InvT-loop-line
 Inv-loop-line l =
     (l .sum ≡ start (l .lines) (l .line-index))
-  × ((j : ℕ) → j < l .line-index → 1 ≤ line (l .lines) j .length .0)
-  × (l .sum ≤ 500000 * l .line-index)
+    × ((j : ℕ) → j < l .line-index → 1 ≤ line (l .lines) j .length .0)
+    × (l .sum ≤ cycle-most * l .line-index)

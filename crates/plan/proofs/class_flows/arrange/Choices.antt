@@ -11,4 +11,4 @@ use Rattle.plan.proofs.class_flows.arrange.Given as given
 abbrev pub Inv-loop-i : given.InvT-loop-i
 Inv-loop-i l =
     (entriesDown 7 (vec-items (l .classes)) ++ groups (8 - l .i) (map entryOf (l .flows)) ≡ groups 8 (map entryOf (l .flows)))
-  × (vec-len (l .classes) ≡ l .i)
+    × (vec-len (l .classes) ≡ l .i)

@@ -21,11 +21,11 @@ loop-line-again c =
     let at = c .line-item .is in
     let lt = c .loop-line-test .taken in
     elim (c .if-line-class .came) [
-      then-line-class·in-Bucket·in-Continue-push w ↦
-        held-same _ _ _ _ _ _ (ap vec-items (w .buckets-is) ∙ w .in-Continue-push .ensures tt .items) (ap vec-items (w .periodics-is)) (bucket-more _ ls i l lt at bs ps (c .loop-line .inv) (w .in-Bucket .bucket) (w .if-line-class .taken) (w .in-Bucket .is))
-    | then-line-class·in-Periodic·in-Continue-push-2 w ↦
-        held-same _ _ _ _ _ _ (ap vec-items (w .buckets-is)) (ap vec-items (w .periodics-is) ∙ w .in-Continue-push-2 .ensures tt .items) (periodic-more _ ls i l lt at bs ps (c .loop-line .inv) (w .in-Periodic .periodic) (w .if-line-class .taken) (w .in-Periodic .is))
-    | else-line-class w ↦ held-same _ _ _ _ _ _ (ap vec-items (w .buckets-is)) (ap vec-items (w .periodics-is)) (other-more _ ls i l lt at bs ps (c .loop-line .inv) (w .if-line-class .left))
+      | then-line-class·in-Bucket·in-Continue-push w ↦
+          held-same _ _ _ _ _ _ (ap vec-items (w .buckets-is) ∙ w .in-Continue-push .ensures tt .items) (ap vec-items (w .periodics-is)) (bucket-more _ ls i l lt at bs ps (c .loop-line .inv) (w .in-Bucket .bucket) (w .if-line-class .taken) (w .in-Bucket .is))
+      | then-line-class·in-Periodic·in-Continue-push-2 w ↦
+          held-same _ _ _ _ _ _ (ap vec-items (w .buckets-is)) (ap vec-items (w .periodics-is) ∙ w .in-Continue-push-2 .ensures tt .items) (periodic-more _ ls i l lt at bs ps (c .loop-line .inv) (w .in-Periodic .periodic) (w .if-line-class .taken) (w .in-Periodic .is))
+      | else-line-class w ↦ held-same _ _ _ _ _ _ (ap vec-items (w .buckets-is)) (ap vec-items (w .periodics-is)) (other-more _ ls i l lt at bs ps (c .loop-line .inv) (w .if-line-class .left))
     ]
 
 pub returns : need.returns

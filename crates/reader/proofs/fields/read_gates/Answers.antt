@@ -22,10 +22,16 @@ returns-in-rest c =
 pub loop-i-again : need.loop-i-again
 loop-i-again c =
     elim (c .match-from .came) [
-      in-O w ↦ (ap (λ l. lettersFrom (drop (8 - (c .loop-i .i + 1)) l) (drop (c .loop-i .i + 1) (c .args .text .now))) (w .gates-is)
-        ∙ sym (letter-open (c .loop-i .gates) (c .args .text .now) (c .loop-i .i) (c .loop-i .inv .1) (c .loop-i-test .taken) (omega arith) (search needs)) ∙ c .loop-i .inv .0, search needs)
-    | in-C w ↦ (ap (λ l. lettersFrom (drop (8 - (c .loop-i .i + 1)) l) (drop (c .loop-i .i + 1) (c .args .text .now))) (w .gates-is)
-        ∙ sym (letter-shut (c .loop-i .gates) (c .args .text .now) (c .loop-i .i) (c .loop-i .inv .1) (c .loop-i-test .taken) (omega arith) (search needs)) ∙ c .loop-i .inv .0, search needs)
+      | in-O w ↦ (
+        ap (λ l. lettersFrom (drop (8 - (c .loop-i .i + 1)) l) (drop (c .loop-i .i + 1) (c .args .text .now))) (w .gates-is)
+            ∙ sym (letter-open (c .loop-i .gates) (c .args .text .now) (c .loop-i .i) (c .loop-i .inv .1) (c .loop-i-test .taken) (omega arith) (search needs)) ∙ c .loop-i .inv .0,
+        search needs,
+      )
+      | in-C w ↦ (
+        ap (λ l. lettersFrom (drop (8 - (c .loop-i .i + 1)) l) (drop (c .loop-i .i + 1) (c .args .text .now))) (w .gates-is)
+            ∙ sym (letter-shut (c .loop-i .gates) (c .args .text .now) (c .loop-i .i) (c .loop-i .inv .1) (c .loop-i-test .taken) (omega arith) (search needs)) ∙ c .loop-i .inv .0,
+        search needs,
+      )
     ]
 
 pub returns : need.returns

@@ -1,4 +1,4 @@
-use mathlib.Core.Path.{refl, sym, ap, _∙_}
+use mathlib.Core.Path.{refl, ap, _∙_}
 use native.Mathlib.Omega.{arith}
 use borrow.Author.Tests.{eq-eqb, ne-eqb}
 use lib.Dec.{eqb}
@@ -16,8 +16,8 @@ pub loop-x-again : need.loop-x-again
 unfolding howMany
 loop-x-again c =
     elim (c .if-x-byte .came) [
-      then-x-byte w ↦ (omega (arith, w .n-is, countBy-more-yes (λ x. eqb x (c .args .byte)) (c .args .text .now) (c .loop-x .x-index) 0 (c .loop-x-test .taken) (eq-eqb _ _ (w .if-x-byte .taken))), omega (arith, w .n-is))
-    | else-x-byte w ↦ (omega (arith, w .n-is, countBy-more-no (λ x. eqb x (c .args .byte)) (c .args .text .now) (c .loop-x .x-index) 0 (c .loop-x-test .taken) (ne-eqb _ _ (w .if-x-byte .left))), omega (arith, w .n-is))
+      | then-x-byte w ↦ (omega (arith, w .n-is, countBy-more-yes (λ x. eqb x (c .args .byte)) (c .args .text .now) (c .loop-x .x-index) 0 (c .loop-x-test .taken) (eq-eqb _ _ (w .if-x-byte .taken))), omega (arith, w .n-is))
+      | else-x-byte w ↦ (omega (arith, w .n-is, countBy-more-no (λ x. eqb x (c .args .byte)) (c .args .text .now) (c .loop-x .x-index) 0 (c .loop-x-test .taken) (ne-eqb _ _ (w .if-x-byte .left))), omega (arith, w .n-is))
     ]
 
 pub returns : need.returns

@@ -1,5 +1,4 @@
 use mathlib.Core.Path.{_∙_}
-use native.Mathlib.Omega.{arith}
 use borrow.Author.Needs.{needs}
 use Rattle.text.proofs.Digit.{numeral-empty, numeral-led, numeral-long, numeral-is}
 use Rattle.text.proofs.numerals.numeral.Needs as need

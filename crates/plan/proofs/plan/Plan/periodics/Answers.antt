@@ -1,5 +1,4 @@
 use mathlib.Core.Path.{sym, ap, _∙_}
-use native.Mathlib.Omega.{arith}
 use Rattle.std.specs.Of.Vec.{vec-items}
 use Rattle.reader.specs.declared.contents.Kind.the-variants.{Periodic}
 use Rattle.plan.specs.ByClass.{periodicEntries}
@@ -8,7 +7,8 @@ use Rattle.plan.proofs.plan.Plan.periodics.Needs as need
 
 pub returns : need.returns
 returns c =
-    let p = c .args .self .now in
-    (c .if-class-gt7 .left,
-     ap (periodicEntries (c .args .class)) (c .as-slice .ensures .value)
-   ∙ class-entries Periodic (c .args .class) 7 (vec-items (p .flows)) (c .index .result .now) (c .if-class-gt7 .left) (sym (p .flows .ok .0) ∙ p .every) (c .index .ensures))
+    let p = c .args .self .now in (
+      c .if-class-gt7 .left,
+      ap (periodicEntries (c .args .class)) (c .as-slice .ensures .value)
+          ∙ class-entries Periodic (c .args .class) 7 (vec-items (p .flows)) (c .index .result .now) (c .if-class-gt7 .left) (sym (p .flows .ok .0) ∙ p .every) (c .index .ensures),
+    )

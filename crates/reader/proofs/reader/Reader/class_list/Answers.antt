@@ -1,4 +1,4 @@
-use mathlib.Core.List.{[], _∷_, map}
+use mathlib.Core.List.{_∷_, map}
 use mathlib.Core.Path.{_≡_, refl, sym, ap, _∙_}
 use Prim.Native.Nat.{_-_}
 use native.Mathlib.Omega.{arith}
@@ -38,11 +38,12 @@ loop-i-again c =
     let n = sizes-length (c .loop-i .classes) (c .loop-i .i) (c .loop-i .inv .3) (omega arith) in
     let more = sizes-put (c .loop-i .classes) (c .loop-i .i) t (c .loop-i .inv .3) (c .loop-i-test .taken) in
     let on = each-more nextClass 8 (c .loop-i .i) (c .loop-i .self .line) (now (c .loop-i .self .rest)) _ (sizesOf t ∷ map sizesOf (drop (8 - c .loop-i .i) (c .loop-i .classes))) (c .loop-i-test .taken) (class-next _ (c .loop-i .i) _ _ n (sizesOf t) (h .value)) in
-    let past = skip-more 8 (c .loop-i .i) (now (c .loop-i .self .rest)) (c .loop-i-test .taken) in
-    (rw (h .line, h .rest, more) (sym on ∙ c .loop-i .inv .0),
-     rw (h .rest) (sym past ∙ c .loop-i .inv .1),
-     omega (arith, h .line, c .loop-i .inv .2),
-     search needs)
+    let past = skip-more 8 (c .loop-i .i) (now (c .loop-i .self .rest)) (c .loop-i-test .taken) in (
+      rw (h .line, h .rest, more) (sym on ∙ c .loop-i .inv .0),
+      rw (h .rest) (sym past ∙ c .loop-i .inv .1),
+      omega (arith, h .line, c .loop-i .inv .2),
+      search needs,
+    )
 
 pub returns : need.returns
 unfolding classesListed

@@ -12,6 +12,6 @@ use Rattle.reader.proofs.reader.Reader.class_list.Given as given
 abbrev pub Inv-loop-i : given.InvT-loop-i
 Inv-loop-i l =
     (each nextClass (8 - l .i) (l .self .line) (now (l .self .rest)) (map sizesOf (drop (8 - l .i) (l .classes))) ≡ each nextClass 8 (l .entry .self .line) (now (l .entry .self .rest)) [])
-  × (skip (8 - l .i) (now (l .self .rest)) ≡ skip 8 (now (l .entry .self .rest)))
-  × (l .self .line ≡ l .entry .self .line + l .i)
-  × (length (l .classes) ≡ 8)
+    × (skip (8 - l .i) (now (l .self .rest)) ≡ skip 8 (now (l .entry .self .rest)))
+    × (l .self .line ≡ l .entry .self .line + l .i)
+    × (length (l .classes) ≡ 8)

@@ -12,9 +12,14 @@ use Rattle.reader.proofs.Steps.{each-start, each-more, each-fault, each-end, s
 use Rattle.reader.proofs.reader.Reader.flow_lines.Needs as need
 
 pub loop-i-holds : need.loop-i-holds
-loop-i-holds c =
-    (each-start (nextFlow (map sizesOf (c .args .classes .now))) (c .args .count) 0 _ _ _ [] (ap (map entryOf) (c .pre .empty)), skip-start (c .args .count) _, omega arith,
-     ap (λ fs. placeAfter first (map entryOf fs)) (sym (c .pre .empty)), c .args .flows .ok .0 ∙ ap length (c .pre .empty), c .pre .room)
+loop-i-holds c = (
+  each-start (nextFlow (map sizesOf (c .args .classes .now))) (c .args .count) 0 _ _ _ [] (ap (map entryOf) (c .pre .empty)),
+  skip-start (c .args .count) _,
+  omega arith,
+  ap (λ fs. placeAfter first (map entryOf fs)) (sym (c .pre .empty)),
+  c .args .flows .ok .0 ∙ ap length (c .pre .empty),
+  c .pre .room,
+)
 
 pub flow-line-requires : need.flow-line-requires
 flow-line-requires c κs = omega (arith, c .loop-i .inv .2, c .pre .line, c .pre .few, c .loop-i-test .taken)
@@ -40,13 +45,14 @@ loop-i-again c =
     let cs = map sizesOf (c .args .classes .now) in
     let more = entries-push (vec-items (c .loop-i .flows)) _ f (c .push-reserved .ensures .items) in
     let on = each-more (nextFlow cs) (c .args .count) (c .loop-i .i) (c .loop-i .self .line) (now (c .loop-i .self .rest)) (entriesOf (c .loop-i .flows)) _ (c .loop-i-test .taken) (flow-next cs _ (c .loop-i .last) _ _ (c .loop-i .inv .3) (entryOf f) (h .value)) in
-    let past = skip-more (c .args .count) (c .loop-i .i) (now (c .loop-i .self .rest)) (c .loop-i-test .taken) in
-    (rw (h .line, h .rest, more) (sym on ∙ c .loop-i .inv .0),
-     rw (h .rest) (sym past ∙ c .loop-i .inv .1),
-     omega (arith, h .line, c .loop-i .inv .2),
-     c .place-last .ensures ∙ sym (place-last first (entriesOf (c .loop-i .flows)) (entryOf f)) ∙ ap (placeAfter first) (sym more),
-     omega (arith, c .push-reserved .ensures .len, c .loop-i .inv .4),
-     omega (arith, c .push-reserved .ensures .capacity, c .loop-i .inv .5))
+    let past = skip-more (c .args .count) (c .loop-i .i) (now (c .loop-i .self .rest)) (c .loop-i-test .taken) in (
+      rw (h .line, h .rest, more) (sym on ∙ c .loop-i .inv .0),
+      rw (h .rest) (sym past ∙ c .loop-i .inv .1),
+      omega (arith, h .line, c .loop-i .inv .2),
+      c .place-last .ensures ∙ sym (place-last first (entriesOf (c .loop-i .flows)) (entryOf f)) ∙ ap (placeAfter first) (sym more),
+      omega (arith, c .push-reserved .ensures .len, c .loop-i .inv .4),
+      omega (arith, c .push-reserved .ensures .capacity, c .loop-i .inv .5),
+    )
 
 pub returns : need.returns
 returns c =

@@ -13,9 +13,14 @@ use Rattle.reader.proofs.Steps.{each-start, each-more, each-fault, each-end, s
 use Rattle.reader.proofs.reader.Reader.gate_lines.Needs as need
 
 pub loop-i-holds : need.loop-i-holds
-loop-i-holds c =
-    (each-start nextGate (c .args .count) 0 _ _ _ [] (c .pre .empty), skip-start (c .args .count) _, omega arith,
-     subst (All Long) (sym (c .pre .empty)) tt, c .args .lines .ok .0 ∙ ap length (c .pre .empty), c .pre .room)
+loop-i-holds c = (
+  each-start nextGate (c .args .count) 0 _ _ _ [] (c .pre .empty),
+  skip-start (c .args .count) _,
+  omega arith,
+  subst (All Long) (sym (c .pre .empty)) tt,
+  c .args .lines .ok .0 ∙ ap length (c .pre .empty),
+  c .pre .room,
+)
 
 pub gate-line-requires : need.gate-line-requires
 gate-line-requires c κs = omega (arith, c .loop-i .inv .2, c .pre .line, c .pre .few, c .loop-i-test .taken)
@@ -40,13 +45,14 @@ loop-i-again c =
     let g = c .in-Continue-gate .gate in
     let more = c .push-reserved .ensures .items in
     let on = each-more nextGate (c .args .count) (c .loop-i .i) (c .loop-i .self .line) (now (c .loop-i .self .rest)) (vec-items (c .loop-i .lines)) _ (c .loop-i-test .taken) (gate-next _ _ _ g (h .value)) in
-    let past = skip-more (c .args .count) (c .loop-i .i) (now (c .loop-i .self .rest)) (c .loop-i-test .taken) in
-    (rw (h .line, h .rest, more) (sym on ∙ c .loop-i .inv .0),
-     rw (h .rest) (sym past ∙ c .loop-i .inv .1),
-     omega (arith, h .line, c .loop-i .inv .2),
-     subst (All Long) (sym more) (all-push Long _ _ (c .loop-i .inv .3) (h .bound)),
-     omega (arith, c .push-reserved .ensures .len, c .loop-i .inv .4),
-     omega (arith, c .push-reserved .ensures .capacity, c .loop-i .inv .5))
+    let past = skip-more (c .args .count) (c .loop-i .i) (now (c .loop-i .self .rest)) (c .loop-i-test .taken) in (
+      rw (h .line, h .rest, more) (sym on ∙ c .loop-i .inv .0),
+      rw (h .rest) (sym past ∙ c .loop-i .inv .1),
+      omega (arith, h .line, c .loop-i .inv .2),
+      subst (All Long) (sym more) (all-push Long _ _ (c .loop-i .inv .3) (h .bound)),
+      omega (arith, c .push-reserved .ensures .len, c .loop-i .inv .4),
+      omega (arith, c .push-reserved .ensures .capacity, c .loop-i .inv .5),
+    )
 
 pub returns : need.returns
 returns c =

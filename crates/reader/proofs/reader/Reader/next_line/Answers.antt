@@ -1,4 +1,4 @@
-use Rattle.reader.proofs.Checked.{line-here, line-none}
+use Rattle.reader.proofs.Checked.{line-here}
 use Rattle.reader.proofs.reader.Reader.next_line.Needs as need
 
 pub returns-then-line-left : need.returns-then-line-left

@@ -34,5 +34,5 @@ returns-in-Err c =
     let bytes = c .in-Continue-bytes .ensures tt .bound in
     let period = c .in-Continue-period .ensures tt .bound in
     let high : Err (Range (c .args .self .now .line)) ≡ ranged (c .args .self .now .line) 0 jitter-most (c .in-Continue-jitter .jitter) =
-        jitter-high _ (c .in-Continue-bytes .bytes) (c .in-Continue-period .period) _ (bytes .0) (omega (arith, bytes .1, c .pre)) (period .0) (period .1) (c .in-Err .ensures tt .1) in
+    jitter-high _ (c .in-Continue-bytes .bytes) (c .in-Continue-period .period) _ (bytes .0) (omega (arith, bytes .1, c .pre)) (period .0) (period .1) (c .in-Err .ensures tt .1) in
     search needs
