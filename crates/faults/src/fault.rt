@@ -5,7 +5,6 @@ ghost use Rattle.faults.specs.declared.fault.PlanFault.the-variants.{Line, Mem
 ghost use Rattle.faults.specs.Faults.{faultRefusal, faultLine, faultLayer};
 use crate::layer::Layer;
 use std::alloc::AllocError;
-use std::alloc::Refused;
 use units::Refusal;
 
 // A field is wrong.
@@ -72,14 +71,6 @@ pub impl From<AllocError> for PlanFault as PlanFromAlloc {
     ghost converts = { λ _ r. r ≡ Memory };
 
     fn from(_error: AllocError) -> PlanFault {
-        PlanFault::Memory
-    }
-}
-
-pub impl<T: Drop> From<Refused<T>> for PlanFault as PlanFromRefused {
-    ghost converts = { λ _ r. r ≡ Memory };
-
-    fn from(_value: Refused<T>) -> PlanFault {
         PlanFault::Memory
     }
 }

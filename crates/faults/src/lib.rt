@@ -15,7 +15,6 @@ pub use fault::PlanFaultPartialEq;
 pub use fault::PlanFromAlloc;
 pub use fault::PlanFromField;
 pub use fault::PlanFromLine;
-pub use fault::PlanFromRefused;
 pub use layer::Layer;
 pub use layer::LayerDebug;
 pub use layer::LayerDisplay;

@@ -27,18 +27,11 @@ impl TrafficClass {
     pub fn new(largest: Bytes, depth: Bytes) -> Option<TrafficClass>
         ensures { λ r. ⌜ BySome r (Sized (largest .0) (depth .0) → ⊥) (λ c. (c .largest ≡ largest) × (c .depth ≡ depth)) ⌝ }
     {
-        if largest.0 == 0 {
-            return if depth.0 == 0 {
-                Some(TrafficClass { largest, depth })
-            } else {
-                None
-            };
+        let most = if largest.0 > 0 { MAX_DEPTH } else { 0 };
+        if largest.0 > MAX_FRAME || largest.0 > 0 && largest.0 < MIN_FRAME {
+            return None;
         }
-        if largest.0 < MIN_FRAME
-            || largest.0 > MAX_FRAME
-            || depth.0 < largest.0
-            || depth.0 > MAX_DEPTH
-        {
+        if depth.0 < largest.0 || depth.0 > most {
             return None;
         }
         Some(TrafficClass { largest, depth })

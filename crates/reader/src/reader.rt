@@ -6,7 +6,6 @@ ghost use Rattle.text.specs.Keys.{content};
 ghost use Rattle.reader.specs.Entries.{lineAt, dueLine};
 use faults::FieldFault;
 use faults::LineFault;
-use faults::LineFromField;
 use text::Key;
 use text::count;
 use text::cut;
