@@ -9,6 +9,7 @@ use Rattle.faults.specs.declared.fault.PlanFault.the-variants.{Size, Sum, Orde
 use Rattle.faults.specs.declared.layer.Layer.{Layer}
 use Rattle.faults.specs.declared.layer.Layer.the-variants as layer
 
+-- the refusal that a caller is told
 abbrev pub faultRefusal : PlanFault → Refusal
 faultRefusal Size = refusal.TextSize
 faultRefusal (Line (Missing k)) = refusal.LineMissing
@@ -20,7 +21,7 @@ faultRefusal (Order k) = refusal.LineOrder
 faultRefusal (More k) = refusal.MoreText
 faultRefusal Memory = refusal.Memory
 
--- 0 stands for the whole text
+-- the line of the fault; 0 stands for the whole text
 abbrev pub faultLine : PlanFault → ℕ
 faultLine Size = 0
 faultLine (Line (Missing k)) = k
@@ -32,6 +33,7 @@ faultLine (Order k) = k
 faultLine (More k) = k
 faultLine Memory = 0
 
+-- the layer at which the fault was found
 abbrev pub faultLayer : PlanFault → Layer
 faultLayer Size = layer.Plan
 faultLayer (Line (Missing k)) = layer.Line

@@ -5,6 +5,7 @@ use lib.Chars.{codes}
 use Rattle.faults.specs.declared.layer.Layer.{Layer}
 use Rattle.faults.specs.declared.layer.Layer.the-variants.{Field, Line, Plan}
 
+-- the word for a layer
 abbrev pub layerWord : Layer → List ℕ
 layerWord Field = codes "field"
 layerWord Line = codes "line"

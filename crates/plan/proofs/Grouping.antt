@@ -15,11 +15,11 @@ use Rattle.std.proofs.shelf.Tests.{cases-lt, eq-eqb, ne-eqb, and-left, cond-tru
 use Rattle.envelope.specs.declared.bucket.Bucket.{Bucket}
 use Rattle.envelope.specs.declared.periodic.Periodic.{Periodic}
 use Rattle.gates.specs.declared.traffic_class.TrafficClass.{TrafficClass}
-use Rattle.reader.specs.declared.contents.Flow.the-variants as code
-use Rattle.reader.specs.declared.contents.FlowLine.{FlowLine}
-use Rattle.reader.specs.declared.contents.Kind.{Kind}
-use Rattle.reader.specs.declared.contents.Kind.the-variants as kind
-use Rattle.reader.specs.Said.{FlowEntry}
+use Rattle.reader.specs.declared.parsed.Flow.the-variants as code
+use Rattle.reader.specs.declared.parsed.FlowLine.{FlowLine}
+use Rattle.reader.specs.declared.parsed.Kind.{Kind}
+use Rattle.reader.specs.declared.parsed.Kind.the-variants as kind
+use Rattle.reader.specs.Contents.{FlowEntry}
 use Rattle.reader.specs.Views.{flowOf, entryOf, sizesOf}
 use Rattle.plan.specs.declared.class_flows.ClassFlows.{ClassFlows}
 use Rattle.plan.specs.Arranged.{ofKind, flowsOf, groups, silent}

@@ -13,16 +13,16 @@ use Rattle.gates.specs.declared.traffic_class.TrafficClass.{TrafficClass}
 use Rattle.gates.specs.Opened.{shut-line}
 use Rattle.reader.specs.Entries.{first}
 use Rattle.reader.specs.Reading.{readPlan}
-use Rattle.reader.specs.Said.{Said, FlowEntry}
+use Rattle.reader.specs.Contents.{Contents, FlowEntry}
 use Rattle.reader.specs.Views.{sizesOf}
 use Rattle.writing.specs.Inverse.{Text-of}
 use Rattle.writing.proofs.Back.{only-texts}
 use Rattle.writing.proofs.Forth.{every-plan}
-use Rattle.plan.specs.Arranged.{groups, arranged, silent, shutSaid}
+use Rattle.plan.specs.Arranged.{groups, arranged, silent, shutContents}
 use Rattle.plan.proofs.Sorting.{groups-nil, groups-all}
 
 -- a plan that is read holds its flows in the order of the text
-module _ (text : List ℕ) (s t : Said) (said : Ok s ≡ readPlan text) (is : t ≡ arranged s) where
+module _ (text : List ℕ) (s t : Contents) (said : Ok s ≡ readPlan text) (is : t ≡ arranged s) where
   same : t ≡ s
   same =
       let sound = only-texts text s (sym said) .sound in
@@ -34,17 +34,17 @@ module _ (text : List ℕ) (s t : Said) (said : Ok s ≡ readPlan text) (is : t 
   pub read-written : Text-of t text
   read-written = only-texts text t (sym read-outcome)
 
-  pub read-accepted : (u : Said) → Text-of u text → t ≡ u
+  pub read-accepted : (u : Contents) → Text-of u text → t ≡ u
   read-accepted u h = let e = read-outcome ∙ every-plan text u h in cc
 
 -- the text of a plan is refused only for want of memory
-pub only-memory : (text : List ℕ) (e : PlanFault) → (e ≡ Memory) ⊎ (Err e ≡ readPlan text) → (u : Said) → Text-of u text → e ≡ Memory
+pub only-memory : (text : List ℕ) (e : PlanFault) → (e ≡ Memory) ⊎ (Err e ≡ readPlan text) → (u : Contents) → Text-of u text → e ≡ Memory
 only-memory text e why u h = ⊎-elim (λ m. m) (λ r. let both = r ∙ every-plan text u h in let z : _≡_ {A = ℕ} 0 1 = cc in absurd (omega arith)) why
 
 -- the shut plan
-pub shut-said : (cycle : ℕ) (gs : List GateLine) (t : TrafficClass) (fs : List FlowEntry) → cycle ≡ 1 → gs ≡ shut-line ∷ [] → t .largest .0 ≡ 0 → t .depth .0 ≡ 0 → fs ≡ groups 8 [] →
-    _≡_ {A = Said} (record { port = 1; cycle = cycle; gates = gs; classes = map sizesOf (replicate 8 t); flows = fs }) shutSaid
-shut-said cycle gs t fs a b l d e =
+pub shut-contents : (cycle : ℕ) (gs : List GateLine) (t : TrafficClass) (fs : List FlowEntry) → cycle ≡ 1 → gs ≡ shut-line ∷ [] → t .largest .0 ≡ 0 → t .depth .0 ≡ 0 → fs ≡ groups 8 [] →
+    _≡_ {A = Contents} (record { port = 1; cycle = cycle; gates = gs; classes = map sizesOf (replicate 8 t); flows = fs }) shutContents
+shut-contents cycle gs t fs a b l d e =
     let q : sizesOf t ≡ silent = (λ i. record { largest = l i; depth = d i }) in
     let f = e ∙ groups-nil 8 in
     (λ i. record { port = 1; cycle = a i; gates = b i; classes = replicate 8 (q i); flows = f i })

@@ -8,11 +8,11 @@ use native.Mathlib.Omega.{arith}
 use lib.Dec.{eqb}
 use Rattle.std.specs.shelf.Lists.{All, kept-by}
 use Rattle.std.proofs.shelf.Tests.{cases-lt, eq-eqb, and-from, and-right, cond-true, cond-false}
-use Rattle.reader.specs.declared.contents.Kind.{Kind}
-use Rattle.reader.specs.declared.contents.Kind.the-variants as kind
-use Rattle.reader.specs.declared.contents.Place.{Place}
+use Rattle.reader.specs.declared.parsed.Kind.{Kind}
+use Rattle.reader.specs.declared.parsed.Kind.the-variants as kind
+use Rattle.reader.specs.declared.parsed.Place.{Place}
 use Rattle.reader.specs.Entries.{kindAfter}
-use Rattle.reader.specs.Said.{Flow, bucket, periodic, FlowEntry, ClassEntry}
+use Rattle.reader.specs.Contents.{Flow, bucket, periodic, FlowEntry, ClassEntry}
 use Rattle.reader.specs.Views.{kindOf, entryPlace}
 use Rattle.writing.specs.Written.{FlowFits, Ordered}
 use Rattle.plan.specs.Arranged.{sameKind, ofKind, flowsOf, groups}

@@ -4,20 +4,23 @@ use Prim.Native.Nat.{ℕ, _-_}
 use Rattle.std.specs.Of.Vec.{vec-items}
 use Rattle.envelope.specs.declared.bucket.Bucket.{Bucket}
 use Rattle.envelope.specs.declared.periodic.Periodic.{Periodic}
-use Rattle.reader.specs.Said.{FlowEntry}
+use Rattle.reader.specs.Contents.{FlowEntry}
 use Rattle.reader.specs.Views.{bucketOf, periodicOf}
 use Rattle.plan.specs.declared.class_flows.ClassFlows.{ClassFlows}
 
--- buckets and periodic flows, as flows of the class c
+-- a bucket as a flow of the class c
 abbrev pub bucketEntry : ℕ → Bucket → FlowEntry
 bucketEntry c b = record { class = c; flow = bucketOf b }
 
+-- a periodic flow as a flow of the class c
 abbrev pub periodicEntry : ℕ → Periodic → FlowEntry
 periodicEntry c p = record { class = c; flow = periodicOf p }
 
+-- buckets as flows of the class c
 abbrev pub bucketEntries : ℕ → List Bucket → List FlowEntry
 bucketEntries c bs = map (bucketEntry c) bs
 
+-- periodic flows as flows of the class c
 abbrev pub periodicEntries : ℕ → List Periodic → List FlowEntry
 periodicEntries c ps = map (periodicEntry c) ps
 

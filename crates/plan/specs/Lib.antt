@@ -1,3 +1,3 @@
 pub mod Arranged
 pub mod ByClass
-pub mod Told
+pub mod PlanContents

@@ -22,8 +22,8 @@ use Rattle.gates.specs.declared.traffic_class.TrafficClass.{TrafficClass}
 use Rattle.gates.specs.Sizes.{Sized}
 use Rattle.text.specs.Cuts.{before}
 use Rattle.text.proofs.Cutting.{shorter}
-use Rattle.reader.specs.Chain.{andThen, told}
-use Rattle.reader.specs.Said.{ClassEntry, largestOf}
+use Rattle.reader.specs.Chain.{andThen, mapOk}
+use Rattle.reader.specs.Contents.{ClassEntry, largestOf}
 use Rattle.reader.specs.Views.{sizesOf}
 use Rattle.reader.specs.Entries.{lineAt}
 use Rattle.reader.specs.Fields.{ranged, roomMost, lettersFrom, gatesIn}
@@ -138,7 +138,7 @@ sizesWith m d = record { largest = m; depth = d }
 
 pub sized-is : (k m d : ℕ) (o : Option TrafficClass) → m ≤ frame-most → (1 ≤ m → frame-least ≤ m) →
     BySome o (Sized m d → ⊥) (λ t. (t .largest ≡ record { 0 = m }) × (t .depth ≡ record { 0 = d })) →
-    told sizesOf (okOr o (Range k)) ≡ andThen (ranged k m (roomMost m) d) (λ n. Ok (sizesWith m n))
+    mapOk sizesOf (okOr o (Range k)) ≡ andThen (ranged k m (roomMost m) d) (λ n. Ok (sizesWith m n))
 sized-is k m d None most least none = ap (λ r. andThen r (λ n. Ok (sizesWith m n))) (outside m d k most least none)
 sized-is k m d (Some t) most least is =
     let a : t .largest .0 ≡ m = ap (λ b. b .0) (is .0) in

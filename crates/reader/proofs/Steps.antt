@@ -25,14 +25,14 @@ use Rattle.gates.specs.declared.gate_list.GateList.{GateList}
 use Rattle.gates.specs.declared.traffic_class.TrafficClass.{TrafficClass}
 use Rattle.gates.specs.Opened.{total, line, Lawful}
 use Rattle.text.specs.Cuts.{past}
-use Rattle.reader.specs.declared.contents.FlowLine.{FlowLine}
-use Rattle.reader.specs.declared.contents.Place.{Place}
-use Rattle.reader.specs.Chain.{andThen, told, each, skip}
+use Rattle.reader.specs.declared.parsed.FlowLine.{FlowLine}
+use Rattle.reader.specs.declared.parsed.Place.{Place}
+use Rattle.reader.specs.Chain.{andThen, mapOk, each, skip}
 use Rattle.reader.specs.Entries.{gateLine, classLine, flowLine, first, placeAfter, nextGate, nextClass, nextFlow}
 use Rattle.reader.specs.Parsed.{linesOf}
 use Rattle.reader.specs.Reading.{readLines, readPlan}
-use Rattle.reader.specs.Said.{ClassEntry, FlowEntry}
-use Rattle.reader.specs.Views.{sizesOf, entryOf, entryPlace, Long}
+use Rattle.reader.specs.Contents.{ClassEntry, FlowEntry}
+use Rattle.reader.specs.Views.{sizesOf, entryOf, entryPlace, LengthFits}
 use Rattle.reader.proofs.Checked.{put-front}
 
 module _ {S E : Type 0} (f : S → ℕ → List ℕ → Result S E) (n i k : ℕ) (text : List ℕ) (s : S) where
@@ -104,12 +104,12 @@ pub sizes-length : (ts : List TrafficClass) (i : ℕ) → length ts ≡ 8 → i 
 sizes-length ts i e h = let l = length-map (drop (8 - i) ts) sizesOf in let d = length-drop (8 - i) ts in omega arith
 
 -- lines that are long enough and as many as a gate list has make one exactly where their lengths add up to the cycle
-each-long : (gs : List GateLine) (i : ℕ) → All Long gs → i < length gs → 1 ≤ line gs i .length .0
-each-long gs i all h = all-getD Long gs i (record { length = record { 0 = 0 }; gates = [] }) h all .0
+each-long : (gs : List GateLine) (i : ℕ) → All LengthFits gs → i < length gs → 1 ≤ line gs i .length .0
+each-long gs i all h = all-getD LengthFits gs i (record { length = record { 0 = 0 }; gates = [] }) h all .0
 
-pub listed-is : (cycle n : ℕ) (gs : List GateLine) (o : Option GateList) → All Long gs → length gs ≡ n → 1 ≤ n → n ≤ lines-most → cycle ≤ cycle-most →
+pub listed-is : (cycle n : ℕ) (gs : List GateLine) (o : Option GateList) → All LengthFits gs → length gs ≡ n → 1 ≤ n → n ≤ lines-most → cycle ≤ cycle-most →
     BySome o (Lawful gs cycle → ⊥) (λ g. (g .cycle ≡ record { 0 = cycle }) × (linesOf g ≡ gs)) →
-    told linesOf (okOr o (Sum (3 + n))) ≡ cond (eqb (total gs) cycle) (Ok gs) (Err (Sum (3 + n)))
+    mapOk linesOf (okOr o (Sum (3 + n))) ≡ cond (eqb (total gs) cycle) (Ok gs) (Err (Sum (3 + n)))
 listed-is cycle n gs None all is some few most none =
     sym (cond-false _ _ _ (ne-eqb (total gs) cycle (λ e. none (record { each = λ i h. each-long gs i all h; together = e; some = omega arith; few = omega arith; most = most }))))
 listed-is cycle n gs (Some g) all is some few most e =

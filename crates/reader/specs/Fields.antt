@@ -16,11 +16,12 @@ use Rattle.gates.specs.declared.gate_line.Gate.{Gate}
 use Rattle.gates.specs.declared.gate_line.Gate.the-variants.{Open, Shut}
 use Rattle.gates.specs.declared.gate_line.GateLine.{GateLine}
 use Rattle.text.specs.Cuts.{before, past}
+use Rattle.text.specs.Marks.{comma, open-letter, shut-letter, bucket-letter, periodic-letter}
 use Rattle.text.specs.Numerals.{numeralIn}
-use Rattle.reader.specs.declared.contents.Kind.{Kind}
-use Rattle.reader.specs.declared.contents.Kind.the-variants.{Bucket, Periodic}
+use Rattle.reader.specs.declared.parsed.Kind.{Kind}
+use Rattle.reader.specs.declared.parsed.Kind.the-variants.{Bucket, Periodic}
 use Rattle.reader.specs.Chain.{andThen}
-use Rattle.reader.specs.Said.{Flow, bucket, periodic, ClassEntry}
+use Rattle.reader.specs.Contents.{Flow, bucket, periodic, ClassEntry}
 
 -- In what follows k is the number of the line, and xs is the field or, where there are several, the fields that are left.
 
@@ -43,13 +44,13 @@ largestField k xs = andThen (numberField k 0 frame-most xs) (λ n. cond (ltb 0 n
 -- the letter of a kind of flow: b or p
 abbrev pub kindIn : ℕ → List ℕ → Result Kind FieldFault
 kindIn k [] = Err (Form k)
-kindIn k (x ∷ []) = cond (eqb x 98) (Ok Bucket) (cond (eqb x 112) (Ok Periodic) (Err (Form k)))
+kindIn k (x ∷ []) = cond (eqb x bucket-letter) (Ok Bucket) (cond (eqb x periodic-letter) (Ok Periodic) (Err (Form k)))
 kindIn k (x ∷ y ∷ xs) = Err (Form k)
 
 -- the gates that letters write, O open and C shut, in front of those that came before them; nothing if a letter is another
 unfoldable pub lettersFrom : List Gate → List ℕ → Option (List Gate)
 lettersFrom gs [] = Some gs
-lettersFrom gs (x ∷ xs) = cond (eqb x 79) (lettersFrom (Open ∷ gs) xs) (cond (eqb x 67) (lettersFrom (Shut ∷ gs) xs) None)
+lettersFrom gs (x ∷ xs) = cond (eqb x open-letter) (lettersFrom (Open ∷ gs) xs) (cond (eqb x shut-letter) (lettersFrom (Shut ∷ gs) xs) None)
 
 -- eight letters, class 7 first: the gate of class c is the entry c
 unfoldable pub gatesIn : ℕ → List ℕ → Result (List Gate) FieldFault
@@ -58,8 +59,8 @@ gatesIn k xs = cond (eqb (length xs) classes) (okOr (lettersFrom [] xs) (Form k)
 -- a gate line: its length, and its gates
 unfoldable pub gateIn : ℕ → List ℕ → Result GateLine FieldFault
 gateIn k xs =
-    andThen (numberField k 1 cycle-most (before 44 xs)) (λ n.
-    andThen (gatesIn k (before 44 (past 44 xs))) (λ gs.
+    andThen (numberField k 1 cycle-most (before comma xs)) (λ n.
+    andThen (gatesIn k (before comma (past comma xs))) (λ gs.
     Ok (record { length = record { 0 = n }; gates = gs })))
 
 -- the greatest depth of a class with the largest frame m
@@ -69,24 +70,24 @@ roomMost m = cond (eqb m 0) 0 depth-most
 -- the sizes of a class: its largest frame, and a depth from that to 16,384, or 0
 unfoldable pub sizesIn : ℕ → List ℕ → Result ClassEntry FieldFault
 sizesIn k xs =
-    andThen (largestField k (before 44 xs)) (λ m.
-    andThen (numberField k m (roomMost m) (before 44 (past 44 xs))) (λ d.
+    andThen (largestField k (before comma xs)) (λ m.
+    andThen (numberField k m (roomMost m) (before comma (past comma xs))) (λ d.
     Ok (record { largest = m; depth = d })))
 
 -- the numbers of a bucket: num is held against den after den's own checks
 unfoldable pub bucketIn : ℕ → List ℕ → Result Flow FieldFault
 bucketIn k xs =
-    andThen (numberField k burst-least burst-most (before 44 xs)) (λ burst.
-    andThen (numeralField k (before 44 (past 44 xs))) (λ num.
-    andThen (numberField k 1 rate-ticks-most (before 44 (past 44 (past 44 xs)))) (λ den.
+    andThen (numberField k burst-least burst-most (before comma xs)) (λ burst.
+    andThen (numeralField k (before comma (past comma xs))) (λ num.
+    andThen (numberField k 1 rate-ticks-most (before comma (past comma (past comma xs)))) (λ den.
     cond (leb num den) (Ok (bucket burst num den)) (Err (Range k)))))
 
 -- the numbers of a periodic flow in a class with the largest frame m
 unfoldable pub periodicIn : ℕ → ℕ → List ℕ → Result Flow FieldFault
 periodicIn k m xs =
-    andThen (numberField k frame-least m (before 44 xs)) (λ bytes.
-    andThen (numberField k 1 period-most (before 44 (past 44 xs))) (λ period.
-    andThen (numberField k 0 jitter-most (before 44 (past 44 (past 44 xs)))) (λ jitter.
+    andThen (numberField k frame-least m (before comma xs)) (λ bytes.
+    andThen (numberField k 1 period-most (before comma (past comma xs))) (λ period.
+    andThen (numberField k 0 jitter-most (before comma (past comma (past comma xs)))) (λ jitter.
     Ok (periodic bytes period jitter))))
 
 -- the numbers of a flow

@@ -1,5 +1,5 @@
 pub mod Chain
-pub mod Said
+pub mod Contents
 pub mod Views
 pub mod Fields
 pub mod Entries

@@ -14,17 +14,18 @@ use Rattle.gates.specs.declared.gate_line.GateLine.{GateLine}
 use Rattle.gates.specs.Opened.{total}
 use Rattle.text.specs.declared.keys.Key.the-variants.{Port, Cycle, Gates, Flows}
 use Rattle.text.specs.Cuts.{past}
+use Rattle.text.specs.Marks.{line-end}
 use Rattle.reader.specs.declared.lists.Header.{Header}
 use Rattle.reader.specs.Chain.{andThen, within, each, skip}
 use Rattle.reader.specs.Entries.{numberLine, nextGate, nextClass, nextFlow}
-use Rattle.reader.specs.Said.{Said, ClassEntry, FlowEntry}
+use Rattle.reader.specs.Contents.{Contents, ClassEntry, FlowEntry}
 
 -- the lines 1 to 3: the port, the cycle and the number of gate lines
 unfoldable pub headerIn : List ℕ → Result Header LineFault
 headerIn text =
     andThen (numberLine 1 Port 1 port-most text) (λ port.
-    andThen (numberLine 2 Cycle 1 cycle-most (past 10 text)) (λ cycle.
-    andThen (numberLine 3 Gates 1 lines-most (past 10 (past 10 text))) (λ gates.
+    andThen (numberLine 2 Cycle 1 cycle-most (past line-end text)) (λ cycle.
+    andThen (numberLine 3 Gates 1 lines-most (past line-end (past line-end text))) (λ gates.
     Ok (record { port = port; cycle = cycle; gates = gates }))))
 
 -- n gate lines from line 4 on, whose lengths add up to the cycle
@@ -41,11 +42,11 @@ classesListed k text = each nextClass classes k text []
 unfoldable pub flowsListed : List ClassEntry → ℕ → List ℕ → Result (List FlowEntry) PlanFault
 flowsListed cs k text =
     andThen (within Line (numberLine k Flows 0 flows-most text)) (λ n.
-    andThen (each (nextFlow cs) n (k + 1) (past 10 text) []) (λ fs.
-    cond (eqb (length (skip n (past 10 text))) 0) (Ok fs) (Err (More (k + 1 + n)))))
+    andThen (each (nextFlow cs) n (k + 1) (past line-end text) []) (λ fs.
+    cond (eqb (length (skip n (past line-end text))) 0) (Ok fs) (Err (More (k + 1 + n)))))
 
 -- all the lines
-unfoldable pub readLines : List ℕ → Result Said PlanFault
+unfoldable pub readLines : List ℕ → Result Contents PlanFault
 readLines text =
     andThen (within Line (headerIn text)) (λ h.
     andThen (gatesListed (h .cycle) (h .gates) (skip 3 text)) (λ gs.
@@ -54,5 +55,5 @@ readLines text =
     Ok (record { port = h .port; cycle = h .cycle; gates = gs; classes = cs; flows = fs })))))
 
 -- a text of 1 to 8,192 bytes
-unfoldable pub readPlan : List ℕ → Result Said PlanFault
+unfoldable pub readPlan : List ℕ → Result Contents PlanFault
 readPlan text = cond (leb 1 (length text) && leb (length text) text-most) (readLines text) (Err Size)

@@ -5,13 +5,14 @@ ghost use mathlib.Core.Path.{_≡_};
 ghost use Prim.Native.Nat.{_+_, _<_, _≤_};
 ghost use lib.Dec.{leb, ltb};
 ghost use Rattle.std.specs.Vec.{made};
+ghost use Rattle.text.specs.Marks.{line-end};
 ghost use Rattle.text.specs.Cuts.{past};
-ghost use Rattle.reader.specs.Chain.{told};
+ghost use Rattle.reader.specs.Chain.{mapOk};
 ghost use Rattle.reader.specs.Entries.{numberLine, gateLine, classLine, flowLine, kindAfter};
-ghost use Rattle.reader.specs.Views.{sizesOf, entryOf, Long};
-use crate::contents::FlowLine;
-use crate::contents::Kind;
-use crate::contents::Place;
+ghost use Rattle.reader.specs.Views.{sizesOf, entryOf, LengthFits};
+use crate::parsed::FlowLine;
+use crate::parsed::Kind;
+use crate::parsed::Place;
 use crate::reader::Reader;
 use faults::LineFault;
 use faults::LineFromField;
@@ -29,7 +30,7 @@ impl Reader<'_> {
         requires { ⌜ now self .line < 1000 ⌝ }
         ensures value { λ r. ⌜ r ≡ numberLine (now (self .entry) .line) due least most (now (now (self .entry) .rest)) ⌝ }
         ensures bound { λ r. ⌜ made r (λ n. (least ≤ n) × (n ≤ most)) ⌝ }
-        ensures rest { λ _. ⌜ now (now (self .exit) .rest) ≡ past 10 (now (now (self .entry) .rest)) ⌝ }
+        ensures rest { λ _. ⌜ now (now (self .exit) .rest) ≡ past line-end (now (now (self .entry) .rest)) ⌝ }
         ensures line { λ _. ⌜ now (self .exit) .line ≡ now (self .entry) .line + 1 ⌝ }
     {
         let line = self.line;
@@ -41,8 +42,8 @@ impl Reader<'_> {
     pub(crate) fn gate_line(&mut self) -> Result<GateLine, LineFault>
         requires { ⌜ now self .line < 1000 ⌝ }
         ensures value { λ r. ⌜ r ≡ gateLine (now (self .entry) .line) (now (now (self .entry) .rest)) ⌝ }
-        ensures bound { λ r. ⌜ made r Long ⌝ }
-        ensures rest { λ _. ⌜ now (now (self .exit) .rest) ≡ past 10 (now (now (self .entry) .rest)) ⌝ }
+        ensures bound { λ r. ⌜ made r LengthFits ⌝ }
+        ensures rest { λ _. ⌜ now (now (self .exit) .rest) ≡ past line-end (now (now (self .entry) .rest)) ⌝ }
         ensures line { λ _. ⌜ now (self .exit) .line ≡ now (self .entry) .line + 1 ⌝ }
     {
         let line = self.line;
@@ -54,8 +55,8 @@ impl Reader<'_> {
     // The next class line, which has to be that of the class `due`.
     pub(crate) fn class_line(&mut self, due: u8) -> Result<TrafficClass, PlanFault>
         requires { ⌜ now self .line < 1000 ⌝ }
-        ensures value { λ r. ⌜ told sizesOf r ≡ classLine (now (self .entry) .line) due (now (now (self .entry) .rest)) ⌝ }
-        ensures rest { λ _. ⌜ now (now (self .exit) .rest) ≡ past 10 (now (now (self .entry) .rest)) ⌝ }
+        ensures value { λ r. ⌜ mapOk sizesOf r ≡ classLine (now (self .entry) .line) due (now (now (self .entry) .rest)) ⌝ }
+        ensures rest { λ _. ⌜ now (now (self .exit) .rest) ≡ past line-end (now (now (self .entry) .rest)) ⌝ }
         ensures line { λ _. ⌜ now (self .exit) .line ≡ now (self .entry) .line + 1 ⌝ }
     {
         let line = self.line;
@@ -75,8 +76,8 @@ impl Reader<'_> {
         last: Place,
     ) -> Result<FlowLine, PlanFault>
         requires { ⌜ now self .line < 1000 ⌝ }
-        ensures value { λ r. ⌜ told entryOf r ≡ flowLine (now (self .entry) .line) (map sizesOf (now (classes .entry))) last (now (now (self .entry) .rest)) ⌝ }
-        ensures rest { λ _. ⌜ now (now (self .exit) .rest) ≡ past 10 (now (now (self .entry) .rest)) ⌝ }
+        ensures value { λ r. ⌜ mapOk entryOf r ≡ flowLine (now (self .entry) .line) (map sizesOf (now (classes .entry))) last (now (now (self .entry) .rest)) ⌝ }
+        ensures rest { λ _. ⌜ now (now (self .exit) .rest) ≡ past line-end (now (now (self .entry) .rest)) ⌝ }
         ensures line { λ _. ⌜ now (self .exit) .line ≡ now (self .entry) .line + 1 ⌝ }
     {
         let line = self.line;

@@ -3,12 +3,13 @@ ghost use mathlib.Core.Path.{_≡_};
 ghost use Prim.Native.Nat.{_≤_};
 ghost use Rattle.std.specs.Vec.{made};
 ghost use Rattle.units.specs.Limits.{frame-least, frame-most};
+ghost use Rattle.text.specs.Marks.{comma};
 ghost use Rattle.text.specs.Cuts.{before, past};
-ghost use Rattle.reader.specs.Chain.{told};
+ghost use Rattle.reader.specs.Chain.{mapOk};
 ghost use Rattle.reader.specs.Fields.{numeralField, numberField, largestField, gatesIn, kindIn, gateIn, sizesIn, bucketIn, periodicIn, flowIn};
-ghost use Rattle.reader.specs.Views.{sizesOf, flowOf, Long};
-use crate::contents::Flow;
-use crate::contents::Kind;
+ghost use Rattle.reader.specs.Views.{sizesOf, flowOf, LengthFits};
+use crate::parsed::Flow;
+use crate::parsed::Kind;
 use crate::reader::Reader;
 use envelope::Bucket;
 use envelope::Periodic;
@@ -30,8 +31,8 @@ use units::limits::MIN_FRAME;
 impl Reader<'_> {
     // The number in the next field.
     pub(crate) fn numeral(&mut self) -> Result<u64, FieldFault>
-        ensures value { λ r. ⌜ r ≡ numeralField (now (self .entry) .line) (before 44 (now (now (self .entry) .rest))) ⌝ }
-        ensures rest { λ _. ⌜ now (now (self .exit) .rest) ≡ past 44 (now (now (self .entry) .rest)) ⌝ }
+        ensures value { λ r. ⌜ r ≡ numeralField (now (self .entry) .line) (before comma (now (now (self .entry) .rest))) ⌝ }
+        ensures rest { λ _. ⌜ now (now (self .exit) .rest) ≡ past comma (now (now (self .entry) .rest)) ⌝ }
         ensures line { λ _. ⌜ now (self .exit) .line ≡ now (self .entry) .line ⌝ }
     {
         let field = self.piece(b',');
@@ -40,9 +41,9 @@ impl Reader<'_> {
 
     // The number in the next field, from `least` to `most`.
     pub(crate) fn number(&mut self, least: u64, most: u64) -> Result<u64, FieldFault>
-        ensures value { λ r. ⌜ r ≡ numberField (now (self .entry) .line) least most (before 44 (now (now (self .entry) .rest))) ⌝ }
+        ensures value { λ r. ⌜ r ≡ numberField (now (self .entry) .line) least most (before comma (now (now (self .entry) .rest))) ⌝ }
         ensures bound { λ r. ⌜ made r (λ n. (least ≤ n) × (n ≤ most)) ⌝ }
-        ensures rest { λ _. ⌜ now (now (self .exit) .rest) ≡ past 44 (now (now (self .entry) .rest)) ⌝ }
+        ensures rest { λ _. ⌜ now (now (self .exit) .rest) ≡ past comma (now (now (self .entry) .rest)) ⌝ }
         ensures line { λ _. ⌜ now (self .exit) .line ≡ now (self .entry) .line ⌝ }
     {
         let n = self.numeral()?;
@@ -54,9 +55,9 @@ impl Reader<'_> {
 
     // The class in the next field.
     pub(crate) fn class(&mut self) -> Result<u8, FieldFault>
-        ensures value { λ r. ⌜ r ≡ numberField (now (self .entry) .line) 0 7 (before 44 (now (now (self .entry) .rest))) ⌝ }
+        ensures value { λ r. ⌜ r ≡ numberField (now (self .entry) .line) 0 7 (before comma (now (now (self .entry) .rest))) ⌝ }
         ensures bound { λ r. ⌜ made r (λ c. c ≤ 7) ⌝ }
-        ensures rest { λ _. ⌜ now (now (self .exit) .rest) ≡ past 44 (now (now (self .entry) .rest)) ⌝ }
+        ensures rest { λ _. ⌜ now (now (self .exit) .rest) ≡ past comma (now (now (self .entry) .rest)) ⌝ }
         ensures line { λ _. ⌜ now (self .exit) .line ≡ now (self .entry) .line ⌝ }
     {
         Ok(self.number(0, 7)? as u8)
@@ -64,8 +65,8 @@ impl Reader<'_> {
 
     // The kind of flow that the letter in the next field picks.
     pub(crate) fn kind(&mut self) -> Result<Kind, FieldFault>
-        ensures value { λ r. ⌜ r ≡ kindIn (now (self .entry) .line) (before 44 (now (now (self .entry) .rest))) ⌝ }
-        ensures rest { λ _. ⌜ now (now (self .exit) .rest) ≡ past 44 (now (now (self .entry) .rest)) ⌝ }
+        ensures value { λ r. ⌜ r ≡ kindIn (now (self .entry) .line) (before comma (now (now (self .entry) .rest))) ⌝ }
+        ensures rest { λ _. ⌜ now (now (self .exit) .rest) ≡ past comma (now (now (self .entry) .rest)) ⌝ }
         ensures line { λ _. ⌜ now (self .exit) .line ≡ now (self .entry) .line ⌝ }
     {
         let [letter] = self.piece(b',') else {
@@ -81,7 +82,7 @@ impl Reader<'_> {
     // A gate line: its length and its gates.
     pub(crate) fn gate(&mut self) -> Result<GateLine, FieldFault>
         ensures value { λ r. ⌜ r ≡ gateIn (now (self .entry) .line) (now (now (self .entry) .rest)) ⌝ }
-        ensures bound { λ r. ⌜ made r Long ⌝ }
+        ensures bound { λ r. ⌜ made r LengthFits ⌝ }
     {
         let length = Ticks(self.number(1, MAX_CYCLE)?);
         let gates = read_gates(self.piece(b','), self.line)?;
@@ -90,9 +91,9 @@ impl Reader<'_> {
 
     // The largest frame of a class, 0 or 64 to 1,522 bytes.
     fn largest(&mut self) -> Result<u64, FieldFault>
-        ensures value { λ r. ⌜ r ≡ largestField (now (self .entry) .line) (before 44 (now (now (self .entry) .rest))) ⌝ }
+        ensures value { λ r. ⌜ r ≡ largestField (now (self .entry) .line) (before comma (now (now (self .entry) .rest))) ⌝ }
         ensures bound { λ r. ⌜ made r (λ n. (n ≤ frame-most) × (1 ≤ n → frame-least ≤ n)) ⌝ }
-        ensures rest { λ _. ⌜ now (now (self .exit) .rest) ≡ past 44 (now (now (self .entry) .rest)) ⌝ }
+        ensures rest { λ _. ⌜ now (now (self .exit) .rest) ≡ past comma (now (now (self .entry) .rest)) ⌝ }
         ensures line { λ _. ⌜ now (self .exit) .line ≡ now (self .entry) .line ⌝ }
     {
         let n = self.number(0, MAX_FRAME)?;
@@ -104,7 +105,7 @@ impl Reader<'_> {
 
     // The sizes of a class: its largest frame and its depth.
     pub(crate) fn sizes(&mut self) -> Result<TrafficClass, FieldFault>
-        ensures { λ r. ⌜ told sizesOf r ≡ sizesIn (now (self .entry) .line) (now (now (self .entry) .rest)) ⌝ }
+        ensures { λ r. ⌜ mapOk sizesOf r ≡ sizesIn (now (self .entry) .line) (now (now (self .entry) .rest)) ⌝ }
     {
         let largest = self.largest()?;
         let depth = self.numeral()?;
@@ -114,7 +115,7 @@ impl Reader<'_> {
     // The numbers of a flow of this kind, in a class with this largest frame.
     pub(crate) fn flow(&mut self, kind: Kind, largest: Bytes) -> Result<Flow, FieldFault>
         requires { ⌜ largest .0 ≤ frame-most ⌝ }
-        ensures { λ r. ⌜ told flowOf r ≡ flowIn (now (self .entry) .line) kind (largest .0) (now (now (self .entry) .rest)) ⌝ }
+        ensures { λ r. ⌜ mapOk flowOf r ≡ flowIn (now (self .entry) .line) kind (largest .0) (now (now (self .entry) .rest)) ⌝ }
     {
         match kind {
             Kind::Bucket => self.bucket(),
@@ -124,7 +125,7 @@ impl Reader<'_> {
 
     // The numbers of a bucket. Its rate is at most a byte a tick, which is seen once all three are read.
     fn bucket(&mut self) -> Result<Flow, FieldFault>
-        ensures { λ r. ⌜ told flowOf r ≡ bucketIn (now (self .entry) .line) (now (now (self .entry) .rest)) ⌝ }
+        ensures { λ r. ⌜ mapOk flowOf r ≡ bucketIn (now (self .entry) .line) (now (now (self .entry) .rest)) ⌝ }
     {
         let burst = self.number(MIN_BURST, MAX_BURST)?;
         let num = self.numeral()?;
@@ -138,7 +139,7 @@ impl Reader<'_> {
     // The numbers of a periodic flow, whose frames are no longer than `largest`.
     fn periodic(&mut self, largest: Bytes) -> Result<Flow, FieldFault>
         requires { ⌜ largest .0 ≤ frame-most ⌝ }
-        ensures { λ r. ⌜ told flowOf r ≡ periodicIn (now (self .entry) .line) (largest .0) (now (now (self .entry) .rest)) ⌝ }
+        ensures { λ r. ⌜ mapOk flowOf r ≡ periodicIn (now (self .entry) .line) (largest .0) (now (now (self .entry) .rest)) ⌝ }
     {
         let bytes = self.number(MIN_FRAME, largest.0)?;
         let period = self.number(1, MAX_PERIOD)?;

@@ -1,12 +1,12 @@
 // From a plan text to what it says: the lines in their order, each field with its form and range.
-mod contents;
 mod entries;
 mod fields;
 mod lists;
+mod parsed;
 mod reader;
 mod whole;
 
-pub use contents::Contents;
-pub use contents::Flow;
-pub use contents::FlowLine;
+pub use parsed::Flow;
+pub use parsed::FlowLine;
+pub use parsed::Parsed;
 pub use whole::parse;

@@ -6,14 +6,14 @@ ghost use Rattle.std.specs.Of.Vec.{vec-items, vec-len, vec-cap};
 ghost use Rattle.std.specs.Vec.{made};
 ghost use Rattle.std.specs.shelf.Lists.{All};
 ghost use Rattle.units.specs.Limits.{port-most, lines-most, cycle-most, flows-most};
-ghost use Rattle.reader.specs.Chain.{told, each, skip};
+ghost use Rattle.reader.specs.Chain.{mapOk, each, skip};
 ghost use Rattle.reader.specs.Entries.{nextGate, nextFlow};
 ghost use Rattle.reader.specs.Parsed.{linesOf, entriesOf};
 ghost use Rattle.reader.specs.Reading.{headerIn, gatesListed, classesListed, flowsListed};
-ghost use Rattle.reader.specs.Views.{sizesOf, Long};
-use crate::contents::FlowLine;
-use crate::contents::Kind;
-use crate::contents::Place;
+ghost use Rattle.reader.specs.Views.{sizesOf, LengthFits};
+use crate::parsed::FlowLine;
+use crate::parsed::Kind;
+use crate::parsed::Place;
 use crate::reader::Reader;
 use faults::LineFault;
 use faults::PlanFault;
@@ -62,7 +62,7 @@ impl Reader<'_> {
         requires most { ⌜ header .cycle ≤ cycle-most ⌝ }
         requires empty { ⌜ vec-items lines ≡ [] ⌝ }
         requires room { ⌜ lines-most ≤ vec-cap lines ⌝ }
-        ensures value { λ r. ⌜ told linesOf r ≡ gatesListed (header .cycle) (header .gates) (now (now (self .entry) .rest)) ⌝ }
+        ensures value { λ r. ⌜ mapOk linesOf r ≡ gatesListed (header .cycle) (header .gates) (now (now (self .entry) .rest)) ⌝ }
         ensures cycle { λ r. ⌜ made r (λ g. g .cycle .0 ≡ header .cycle) ⌝ }
         ensures rest { λ r. ⌜ made r (λ _. now (now (self .exit) .rest) ≡ skip (header .gates) (now (now (self .entry) .rest))) ⌝ }
         ensures line { λ r. ⌜ made r (λ _. now (self .exit) .line ≡ 4 + header .gates) ⌝ }
@@ -81,8 +81,8 @@ impl Reader<'_> {
         requires few { ⌜ count ≤ lines-most ⌝ }
         requires empty { ⌜ vec-items lines ≡ [] ⌝ }
         requires room { ⌜ lines-most ≤ vec-cap lines ⌝ }
-        ensures value { λ r. ⌜ told vec-items r ≡ each nextGate count (now (self .entry) .line) (now (now (self .entry) .rest)) [] ⌝ }
-        ensures bound { λ r. ⌜ made r (λ v. All Long (vec-items v) × (vec-len v ≡ count)) ⌝ }
+        ensures value { λ r. ⌜ mapOk vec-items r ≡ each nextGate count (now (self .entry) .line) (now (now (self .entry) .rest)) [] ⌝ }
+        ensures bound { λ r. ⌜ made r (λ v. All LengthFits (vec-items v) × (vec-len v ≡ count)) ⌝ }
         ensures rest { λ r. ⌜ made r (λ _. now (now (self .exit) .rest) ≡ skip count (now (now (self .entry) .rest))) ⌝ }
         ensures line { λ r. ⌜ made r (λ _. now (self .exit) .line ≡ now (self .entry) .line + count) ⌝ }
     {
@@ -96,7 +96,7 @@ impl Reader<'_> {
     // The eight class lines, class 7 first.
     pub(crate) fn class_list(&mut self) -> Result<[TrafficClass; 8], PlanFault>
         requires { ⌜ now self .line < 100 ⌝ }
-        ensures value { λ r. ⌜ told (map sizesOf) r ≡ classesListed (now (self .entry) .line) (now (now (self .entry) .rest)) ⌝ }
+        ensures value { λ r. ⌜ mapOk (map sizesOf) r ≡ classesListed (now (self .entry) .line) (now (now (self .entry) .rest)) ⌝ }
         ensures rest { λ r. ⌜ made r (λ _. now (now (self .exit) .rest) ≡ skip 8 (now (now (self .entry) .rest))) ⌝ }
         ensures line { λ r. ⌜ made r (λ _. now (self .exit) .line ≡ now (self .entry) .line + 8) ⌝ }
     {
@@ -117,7 +117,7 @@ impl Reader<'_> {
         requires line { ⌜ now self .line < 100 ⌝ }
         requires empty { ⌜ vec-items flows ≡ [] ⌝ }
         requires room { ⌜ flows-most ≤ vec-cap flows ⌝ }
-        ensures { λ r. ⌜ told entriesOf r ≡ flowsListed (map sizesOf (now (classes .entry))) (now (self .entry) .line) (now (now (self .entry) .rest)) ⌝ }
+        ensures { λ r. ⌜ mapOk entriesOf r ≡ flowsListed (map sizesOf (now (classes .entry))) (now (self .entry) .line) (now (now (self .entry) .rest)) ⌝ }
     {
         let count = self.number_line(Key::Flows, 0, MAX_FLOWS as u64)?;
         let flows = self.flow_lines(classes, flows, count)?;
@@ -138,7 +138,7 @@ impl Reader<'_> {
         requires few { ⌜ count ≤ flows-most ⌝ }
         requires empty { ⌜ vec-items flows ≡ [] ⌝ }
         requires room { ⌜ flows-most ≤ vec-cap flows ⌝ }
-        ensures value { λ r. ⌜ told entriesOf r ≡ each (nextFlow (map sizesOf (now (classes .entry)))) count (now (self .entry) .line) (now (now (self .entry) .rest)) [] ⌝ }
+        ensures value { λ r. ⌜ mapOk entriesOf r ≡ each (nextFlow (map sizesOf (now (classes .entry)))) count (now (self .entry) .line) (now (now (self .entry) .rest)) [] ⌝ }
         ensures rest { λ r. ⌜ made r (λ _. now (now (self .exit) .rest) ≡ skip count (now (now (self .entry) .rest))) ⌝ }
         ensures line { λ r. ⌜ made r (λ _. now (self .exit) .line ≡ now (self .entry) .line + count) ⌝ }
     {

@@ -1,6 +1,7 @@
 // The reader goes forward over the caller's own text, and hands out lines and fields of it.
 ghost use mathlib.Core.Path.{_≡_};
 ghost use Prim.Native.Nat.{_+_, _<_};
+ghost use Rattle.text.specs.Marks.{line-end};
 ghost use Rattle.text.specs.Cuts.{before, past};
 ghost use Rattle.text.specs.Keys.{content};
 ghost use Rattle.reader.specs.Entries.{lineAt, dueLine};
@@ -34,7 +35,7 @@ impl<'a> Reader<'a> {
     pub(crate) fn next_line(&mut self) -> Result<&'a [u8], LineFault>
         requires { ⌜ now self .line < 1000 ⌝ }
         ensures value { λ r. ⌜ content r ≡ lineAt (now (self .entry) .line) (now (now (self .entry) .rest)) ⌝ }
-        ensures rest { λ _. ⌜ now (now (self .exit) .rest) ≡ past 10 (now (now (self .entry) .rest)) ⌝ }
+        ensures rest { λ _. ⌜ now (now (self .exit) .rest) ≡ past line-end (now (now (self .entry) .rest)) ⌝ }
         ensures line { λ _. ⌜ now (self .exit) .line ≡ now (self .entry) .line + 1 ⌝ }
     {
         let number = self.line;
@@ -52,7 +53,7 @@ impl<'a> Reader<'a> {
     pub(crate) fn due_line(&mut self, due: Key, commas: usize) -> Result<&'a [u8], LineFault>
         requires { ⌜ now self .line < 1000 ⌝ }
         ensures value { λ r. ⌜ content r ≡ dueLine (now (self .entry) .line) due commas (now (now (self .entry) .rest)) ⌝ }
-        ensures rest { λ _. ⌜ now (now (self .exit) .rest) ≡ past 10 (now (now (self .entry) .rest)) ⌝ }
+        ensures rest { λ _. ⌜ now (now (self .exit) .rest) ≡ past line-end (now (now (self .entry) .rest)) ⌝ }
         ensures line { λ _. ⌜ now (self .exit) .line ≡ now (self .entry) .line + 1 ⌝ }
     {
         let number = self.line;

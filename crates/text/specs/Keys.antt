@@ -15,7 +15,9 @@ use Rattle.faults.specs.declared.fault.LineFault.the-variants as fault
 use Rattle.text.specs.declared.keys.Key.{Key}
 use Rattle.text.specs.declared.keys.Key.the-variants.{Port, Cycle, Gates, Gate, Class, Flows, Flow}
 use Rattle.text.specs.Cuts.{before, past, has}
+use Rattle.text.specs.Marks.{equals-sign}
 
+-- the key of a line
 abbrev pub key : Key → List ℕ
 key Port = codes "port"
 key Cycle = codes "cycle"
@@ -27,7 +29,7 @@ key Flow = codes "flow"
 
 -- what follows the first equals sign of the line with the number k, whose key has to be the due one
 abbrev pub valueIn : ℕ → Key → List ℕ → Result (List ℕ) LineFault
-valueIn k due line = cond (has 61 line) (cond (sameBytes (before 61 line) (key due)) (Ok (past 61 line)) (Err (fault.Key k))) (Err (fault.Missing k))
+valueIn k due line = cond (has equals-sign line) (cond (sameBytes (before equals-sign line) (key due)) (Ok (past equals-sign line)) (Err (fault.Key k))) (Err (fault.Missing k))
 
 -- the key and its equals sign
 abbrev pub word : Key → List ℕ

@@ -1,3 +1,4 @@
+pub mod Marks
 pub mod Cuts
 pub mod Numerals
 pub mod Keys

@@ -5,49 +5,54 @@ use Prim.Native.Nat.{ℕ}
 abbrev pub classes : ℕ
 classes = 8
 
--- the bytes of a plan text
+-- the most bytes of a plan text
 abbrev pub text-most : ℕ
 text-most = 8192
 
--- the number of a port
+-- the highest number of a port
 abbrev pub port-most : ℕ
 port-most = 65535
 
--- the lines of a gate list, and the ticks of its cycle
+-- the most lines of a gate list
 abbrev pub lines-most : ℕ
 lines-most = 64
 
+-- the most ticks of a cycle
 abbrev pub cycle-most : ℕ
 cycle-most = 500000
 
--- the bytes of a frame, of any class that sends
+-- the fewest bytes of a frame
 abbrev pub frame-least : ℕ
 frame-least = 64
 
+-- the most bytes of a frame
 abbrev pub frame-most : ℕ
 frame-most = 1522
 
--- the unsent bytes of a class
+-- the most unsent bytes of a class
 abbrev pub depth-most : ℕ
 depth-most = 16384
 
--- the flows of a plan
+-- the most flows of a plan
 abbrev pub flows-most : ℕ
 flows-most = 64
 
--- the burst of a bucket, in bytes, and the ticks in which it earns its rate
+-- the smallest burst of a bucket, in bytes
 abbrev pub burst-least : ℕ
 burst-least = 64
 
+-- the largest burst of a bucket, in bytes
 abbrev pub burst-most : ℕ
 burst-most = 1000000
 
+-- the most ticks in which a bucket earns the bytes of its rate
 abbrev pub rate-ticks-most : ℕ
 rate-ticks-most = 1000000
 
--- the period and the jitter of a periodic flow, in ticks
+-- the longest period of a periodic flow, in ticks
 abbrev pub period-most : ℕ
 period-most = 4000000
 
+-- the largest jitter of a periodic flow, in ticks
 abbrev pub jitter-most : ℕ
 jitter-most = 4000000

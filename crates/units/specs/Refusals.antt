@@ -3,6 +3,7 @@ use Prim.Native.Nat.{ℕ}
 use Rattle.units.specs.declared.refusal.Refusal.{Refusal}
 use Rattle.units.specs.declared.refusal.Refusal.the-variants.{TextSize, LineMissing, WrongKey, FieldForm, FieldRange, CycleSum, LineOrder, MoreText, NoClass, SlotSpace, CurveSpan, StartTick, PortLife, FrameSize, QueueFull, ReportSpace, NoFlow, NoSureTick, NoClosingSpan, BeyondReach, FlowRange, Memory}
 
+-- the number of a refusal, as docs/refusals.md lists it
 abbrev pub refusalNumber : Refusal → ℕ
 refusalNumber TextSize = 1
 refusalNumber LineMissing = 2

@@ -20,10 +20,10 @@ use Rattle.gates.specs.Opened.{total, Lawful}
 use Rattle.gates.specs.Sizes.{Sized}
 use Rattle.text.specs.declared.keys.Key.the-variants as key
 use Rattle.text.specs.Cuts.{past}
-use Rattle.reader.specs.declared.contents.Place.{Place}
+use Rattle.reader.specs.declared.parsed.Place.{Place}
 use Rattle.reader.specs.declared.lists.Header.{Header}
 use Rattle.reader.specs.Chain.{within, each, skip}
-use Rattle.reader.specs.Said.{Said, FlowEntry, ClassEntry}
+use Rattle.reader.specs.Contents.{Contents, FlowEntry, ClassEntry}
 use Rattle.reader.specs.Views.{entryPlace}
 use Rattle.reader.specs.Entries.{numberLine, gateLine, classLine, flowLine, first, placeAfter, nextGate, nextClass, nextFlow}
 use Rattle.reader.specs.Reading.{headerIn, gatesListed, classesListed, flowsListed, readLines, readPlan}
@@ -151,13 +151,13 @@ header-back text h e =
 lawful : (gs : List GateLine) (cycle : ℕ) → All GateFits gs → total gs ≡ cycle → 1 ≤ length gs → length gs ≤ lines-most → cycle ≤ cycle-most → Lawful gs cycle
 lawful gs cycle fit sum some few most = record { each = λ i h. all-getD GateFits gs i _ h fit .0; together = sum; some = some; few = few; most = most }
 
-abbrev saidBy : Header → List GateLine → List ClassEntry → List FlowEntry → Said
-saidBy h gs cs fs = record { port = h .port; cycle = h .cycle; gates = gs; classes = cs; flows = fs }
+abbrev contentsOf : Header → List GateLine → List ClassEntry → List FlowEntry → Contents
+contentsOf h gs cs fs = record { port = h .port; cycle = h .cycle; gates = gs; classes = cs; flows = fs }
 
 -- the parts of a text that is read, put together
 whole : (text : List ℕ) (h : Header) (gs : List GateLine) (cs : List ClassEntry) (fs : List FlowEntry) →
     headerIn text ≡ Ok h → gatesListed (h .cycle) (h .gates) (skip 3 text) ≡ Ok gs → classesListed (4 + h .gates) (skip (h .gates) (skip 3 text)) ≡ Ok cs →
-    flowsListed cs (12 + h .gates) (skip classes (skip (h .gates) (skip 3 text))) ≡ Ok fs → Sound (saidBy h gs cs fs) × (text ≡ write (saidBy h gs cs fs))
+    flowsListed cs (12 + h .gates) (skip classes (skip (h .gates) (skip 3 text))) ≡ Ok fs → Sound (contentsOf h gs cs fs) × (text ≡ write (contentsOf h gs cs fs))
 unfolding write
 whole text h gs cs fs p q r t =
     let a = header-back text h p in
@@ -181,7 +181,7 @@ whole text h gs cs fs p q r t =
       a .0 ∙ (λ i. numberText key.Port (h .port) ++ (numberText key.Cycle (h .cycle) ++ (numberText key.Gates (sym long i) ++ listed i))),
     )
 
-lines-back : (text : List ℕ) (s : Said) → readLines text ≡ Ok s → Sound s × (text ≡ write s)
+lines-back : (text : List ℕ) (s : Contents) → readLines text ≡ Ok s → Sound s × (text ≡ write s)
 unfolding readLines
 lines-back text s e =
     let p = then-ok (within Line (headerIn text)) _ s e in
@@ -189,7 +189,7 @@ lines-back text s e =
     let q = then-ok (gatesListed (h .cycle) (h .gates) (skip 3 text)) _ s (p .2) in
     let r = then-ok (classesListed (4 + h .gates) (skip (h .gates) (skip 3 text))) _ s (q .2) in
     let t = then-ok (flowsListed (r .0) (12 + h .gates) (skip classes (skip (h .gates) (skip 3 text)))) _ s (r .2) in
-    let said : Said → Type 0 = λ x. Sound x × (text ≡ write x) in
+    let said : Contents → Type 0 = λ x. Sound x × (text ≡ write x) in
     subst said (ok-ok (t .2)) (whole text h (q .0) (r .0) (t .0) (within-ok Line _ h (p .1)) (q .1) (r .1) (t .1))
 
 -- a text that is read is the text of the plan that is read

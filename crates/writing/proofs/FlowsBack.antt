@@ -12,11 +12,11 @@ use Rattle.units.specs.Limits.{frame-least, burst-least, burst-most, rate-ticks
 use Rattle.faults.specs.declared.fault.PlanFault.the-variants.{Line}
 use Rattle.text.specs.declared.keys.Key.the-variants as key
 use Rattle.text.specs.Cuts.{before, past, howMany}
-use Rattle.reader.specs.declared.contents.Kind.{Kind}
-use Rattle.reader.specs.declared.contents.Kind.the-variants.{Bucket, Periodic}
-use Rattle.reader.specs.declared.contents.Place.{Place}
+use Rattle.reader.specs.declared.parsed.Kind.{Kind}
+use Rattle.reader.specs.declared.parsed.Kind.the-variants.{Bucket, Periodic}
+use Rattle.reader.specs.declared.parsed.Place.{Place}
 use Rattle.reader.specs.Chain.{within}
-use Rattle.reader.specs.Said.{Flow, FlowEntry, ClassEntry, largestOf}
+use Rattle.reader.specs.Contents.{Flow, FlowEntry, ClassEntry, largestOf}
 use Rattle.reader.specs.Views.{kindOf}
 use Rattle.reader.specs.Fields.{numeralField, numberField, kindIn, bucketIn, periodicIn, flowIn}
 use Rattle.reader.specs.Entries.{dueLine, inField, kindAfter, flowLine}

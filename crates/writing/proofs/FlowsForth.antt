@@ -15,10 +15,10 @@ use Rattle.gates.specs.Sizes.{Sized}
 use Rattle.text.specs.declared.keys.Key.the-variants as key
 use Rattle.text.specs.Cuts.{before, past, howMany}
 use Rattle.text.proofs.Cutting.{count-cons}
-use Rattle.reader.specs.declared.contents.Place.{Place}
+use Rattle.reader.specs.declared.parsed.Place.{Place}
 use Rattle.reader.specs.Entries.{kindAfter, flowLine}
 use Rattle.reader.specs.Fields.{numeralField, numberField, kindIn, bucketIn, periodicIn, flowIn}
-use Rattle.reader.specs.Said.{Flow, bucket, periodic, FlowEntry, ClassEntry, largestOf}
+use Rattle.reader.specs.Contents.{Flow, bucket, periodic, FlowEntry, ClassEntry, largestOf}
 use Rattle.reader.specs.Views.{kindOf}
 use Rattle.writing.specs.Written.{field, flowFields, flowText, FlowRange, FlowFits}
 use Rattle.writing.proofs.Lacking.{Lacks, before-join, past-join, numeral-field, number-field, field-before, field-past, field-lacks, field-counts}

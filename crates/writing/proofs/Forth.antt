@@ -17,11 +17,11 @@ use Rattle.gates.specs.Sizes.{Sized}
 use Rattle.gates.proofs.Lines.{total-some, line-most}
 use Rattle.text.specs.declared.keys.Key.the-variants as key
 use Rattle.text.specs.Cuts.{past}
-use Rattle.reader.specs.declared.contents.Place.{Place}
+use Rattle.reader.specs.declared.parsed.Place.{Place}
 use Rattle.reader.specs.Chain.{each, skip}
 use Rattle.reader.specs.Entries.{first, placeAfter, numberLine, flowLine, nextGate, nextClass, nextFlow, gateLine}
 use Rattle.reader.specs.Reading.{headerIn, gatesListed, classesListed, flowsListed, readLines, readPlan}
-use Rattle.reader.specs.Said.{Said, FlowEntry, ClassEntry, largestOf}
+use Rattle.reader.specs.Contents.{Contents, FlowEntry, ClassEntry, largestOf}
 use Rattle.reader.specs.Views.{entryPlace}
 use Rattle.writing.specs.Written.{numberText, gateText, classText, classTexts, flowText, Ordered, write, Sound}
 use Rattle.writing.specs.Inverse.{Every-plan}
@@ -91,7 +91,7 @@ flows-read cs most k fs (f ∷ rs) p rest e h o =
     (each-step (nextFlow cs) (length rs) k _ more fs (fs ++ f ∷ []) (then-goes _ is refl) next ∙ r .0 ∙ ap Ok (append-assoc fs (f ∷ []) rs), skip-step (length rs) _ more next ∙ r .1)
 
 -- the parts of a plan's text, each with all that stands behind it
-module _ (s : Said) (sound : Sound s) where
+module _ (s : Contents) (sound : Sound s) where
   abbrev lines : ℕ
   lines = length (s .gates)
 

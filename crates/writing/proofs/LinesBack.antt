@@ -26,7 +26,7 @@ use Rattle.text.specs.declared.keys.Key.the-variants as key
 use Rattle.text.specs.Cuts.{before, past, has, howMany}
 use Rattle.text.specs.Keys.{key as keyOf, word, valueIn}
 use Rattle.reader.specs.Chain.{within}
-use Rattle.reader.specs.Said.{Flow, ClassEntry}
+use Rattle.reader.specs.Contents.{Flow, ClassEntry}
 use Rattle.reader.specs.Fields.{numberField, largestField, lettersFrom, gatesIn, gateIn, roomMost, sizesIn}
 use Rattle.reader.specs.Entries.{lineAt, dueLine, inField, numberLine, gateLine, classLine}
 use Rattle.reader.proofs.Checked.{in-room}

@@ -29,7 +29,7 @@ use Rattle.text.proofs.Keyed.{value-some}
 use Rattle.reader.specs.Chain.{andThen, within}
 use Rattle.reader.specs.Entries.{lineAt, dueLine, numberLine, gateLine, classLine}
 use Rattle.reader.specs.Fields.{numberField, lettersFrom, gatesIn, gateIn, largestField, roomMost, sizesIn}
-use Rattle.reader.specs.Said.{ClassEntry}
+use Rattle.reader.specs.Contents.{ClassEntry}
 use Rattle.writing.specs.Written.{lineOf, numberText, field, letter, letters, gateText, classText}
 use Rattle.writing.proofs.Lacking.{Lacks, lacks-append, has-join, before-join, past-join, before-none, count-none, decimal-lacks, number-field, field-before, field-past, field-alone, field-lacks, field-counts, alone-counts}
 

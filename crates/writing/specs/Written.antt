@@ -16,34 +16,39 @@ use Rattle.gates.specs.Opened.{Lawful}
 use Rattle.gates.specs.Sizes.{Sized}
 use Rattle.text.specs.declared.keys.Key.{Key}
 use Rattle.text.specs.declared.keys.Key.the-variants as key
+use Rattle.text.specs.Marks.{line-end, comma, open-letter, shut-letter, bucket-letter, periodic-letter}
 use Rattle.text.specs.Keys.{word}
-use Rattle.reader.specs.declared.contents.Place.{Place}
+use Rattle.reader.specs.declared.parsed.Place.{Place}
 use Rattle.reader.specs.Entries.{first, kindAfter}
-use Rattle.reader.specs.Said.{Said, Flow, bucket, periodic, FlowEntry, ClassEntry, largestOf}
+use Rattle.reader.specs.Contents.{Contents, Flow, bucket, periodic, FlowEntry, ClassEntry, largestOf}
 use Rattle.reader.specs.Views.{kindOf, entryPlace}
 
 -- a line is its key, an equals sign, its fields and byte 10
 abbrev pub lineOf : Key → List ℕ → List ℕ
-lineOf due fields = (word due ++ fields) ++ 10 ∷ []
+lineOf due fields = (word due ++ fields) ++ line-end ∷ []
 
+-- a line with one number
 abbrev pub numberText : Key → ℕ → List ℕ
 numberText due n = lineOf due (decimal n)
 
 -- a field, a comma, and the fields after it
 abbrev pub field : ℕ → List ℕ → List ℕ
-field n fields = decimal n ++ 44 ∷ fields
+field n fields = decimal n ++ comma ∷ fields
 
+-- the letter of a gate
 abbrev pub letter : Gate → ℕ
-letter Open = 79
-letter Shut = 67
+letter Open = open-letter
+letter Shut = shut-letter
 
--- class 7 first
+-- the letters of a gate line, class 7 first
 abbrev pub letters : List Gate → List ℕ
 letters gs = map letter (reverse gs)
 
+-- a gate line
 abbrev pub gateText : GateLine → List ℕ
 gateText g = lineOf key.Gate (field (g .length .0) (letters (g .gates)))
 
+-- the line of the class c
 abbrev pub classText : ℕ → ClassEntry → List ℕ
 classText c e = lineOf key.Class (field c (field (e .largest) (decimal (e .depth))))
 
@@ -52,15 +57,17 @@ abbrev pub classTexts : List ClassEntry → List ℕ
 classTexts [] = []
 classTexts (e ∷ es) = classTexts es ++ classText (7 - length es) e
 
+-- the fields of a flow behind its class
 abbrev pub flowFields : Flow → List ℕ
-flowFields (bucket burst num den) = 98 ∷ 44 ∷ field burst (field num (decimal den))
-flowFields (periodic bytes period jitter) = 112 ∷ 44 ∷ field bytes (field period (decimal jitter))
+flowFields (bucket burst num den) = bucket-letter ∷ comma ∷ field burst (field num (decimal den))
+flowFields (periodic bytes period jitter) = periodic-letter ∷ comma ∷ field bytes (field period (decimal jitter))
 
+-- a flow line
 abbrev pub flowText : FlowEntry → List ℕ
 flowText f = lineOf key.Flow (field (f .class) (flowFields (f .flow)))
 
 -- the text of a plan
-unfoldable pub write : Said → List ℕ
+unfoldable pub write : Contents → List ℕ
 write s =
     numberText key.Port (s .port) ++ (numberText key.Cycle (s .cycle) ++ (numberText key.Gates (length (s .gates)) ++ (joined gateText (s .gates)
     ++ (classTexts (s .classes) ++ (numberText key.Flows (length (s .flows)) ++ joined flowText (s .flows))))))
@@ -83,7 +90,7 @@ Ordered cs p [] = Unit {0}
 Ordered cs p (f ∷ fs) = FlowFits cs p f × Ordered cs (entryPlace f) fs
 
 -- the plans that there are
-pub record Sound (s : Said) : Type 0 where
+pub record Sound (s : Contents) : Type 0 where
   pub port-low : 1 ≤ s .port
   pub port-high : s .port ≤ port-most
   pub lines : Lawful (s .gates) (s .cycle)

@@ -1,6 +1,6 @@
 use mathlib.Core.Path.{sym, ap, _∙_}
 use Rattle.std.specs.Of.Vec.{vec-items}
-use Rattle.reader.specs.declared.contents.Kind.the-variants.{Bucket}
+use Rattle.reader.specs.declared.parsed.Kind.the-variants.{Bucket}
 use Rattle.plan.specs.ByClass.{bucketEntries}
 use Rattle.plan.proofs.Grouping.{class-entries}
 use Rattle.plan.proofs.plan.Plan.buckets.Needs as need

@@ -3,10 +3,10 @@ use Rattle.std.proofs.shelf.Results.{err-from-errBy}
 use Rattle.plan.proofs.Outcomes.{read-outcome, read-written, read-accepted, only-memory}
 use Rattle.plan.proofs.plan.Plan.read.Needs as need
 
-pub returns-in-Break-contents : need.returns-in-Break-contents
-returns-in-Break-contents c =
+pub returns-in-Break-parsed : need.returns-in-Break-parsed
+returns-in-Break-parsed c =
     let p = err-from-errBy (c .from-residual .result) (c .from-residual .ensures .1) in
-    let why = c .in-Break-contents .ensures tt in
+    let why = c .in-Break-parsed .ensures tt in
     record {
       outcome = rw (p .1, p .2) (refl, why);
       written = rw (p .1) tt;
@@ -15,6 +15,6 @@ returns-in-Break-contents c =
 
 pub returns : need.returns
 returns c =
-    let said = c .in-Continue-contents .ensures tt in
+    let said = c .in-Continue-parsed .ensures tt in
     let is = c .in-Continue-self .ensures tt in
     record { outcome = read-outcome _ _ _ said is; written = read-written _ _ _ said is; accepted = read-accepted _ _ _ said is }

@@ -2,7 +2,7 @@ use mathlib.Core.List.{map}
 use mathlib.Core.Path.{_≡_}
 use borrow.Author.Needs.{needs}
 use Rattle.reader.specs.Entries.{flowLine}
-use Rattle.reader.specs.Said.{largestOf}
+use Rattle.reader.specs.Contents.{largestOf}
 use Rattle.reader.specs.Views.{sizesOf}
 use Rattle.reader.proofs.Checked.{largest-at}
 use Rattle.reader.proofs.reader.Reader.flow_line.Needs as need

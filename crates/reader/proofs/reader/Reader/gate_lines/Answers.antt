@@ -8,7 +8,7 @@ use Rattle.std.specs.shelf.Lists.{All}
 use Rattle.std.proofs.shelf.Elements.{all-push}
 use Rattle.std.proofs.shelf.Results.{err-from-errBy}
 use Rattle.reader.specs.Entries.{nextGate}
-use Rattle.reader.specs.Views.{Long}
+use Rattle.reader.specs.Views.{LengthFits}
 use Rattle.reader.proofs.Steps.{each-start, each-more, each-fault, each-end, skip-start, skip-more, skip-end, gate-next, gate-stop}
 use Rattle.reader.proofs.reader.Reader.gate_lines.Needs as need
 
@@ -17,7 +17,7 @@ loop-i-holds c = (
   each-start nextGate (c .args .count) 0 _ _ _ [] (c .pre .empty),
   skip-start (c .args .count) _,
   omega arith,
-  subst (All Long) (sym (c .pre .empty)) tt,
+  subst (All LengthFits) (sym (c .pre .empty)) tt,
   c .args .lines .ok .0 ∙ ap length (c .pre .empty),
   c .pre .room,
 )
@@ -49,7 +49,7 @@ loop-i-again c =
       rw (h .line, h .rest, more) (sym on ∙ c .loop-i .inv .0),
       rw (h .rest) (sym past ∙ c .loop-i .inv .1),
       omega (arith, h .line, c .loop-i .inv .2),
-      subst (All Long) (sym more) (all-push Long _ _ (c .loop-i .inv .3) (h .bound)),
+      subst (All LengthFits) (sym more) (all-push LengthFits _ _ (c .loop-i .inv .3) (h .bound)),
       omega (arith, c .push-reserved .ensures .len, c .loop-i .inv .4),
       omega (arith, c .push-reserved .ensures .capacity, c .loop-i .inv .5),
     )

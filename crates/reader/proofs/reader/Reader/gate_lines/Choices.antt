@@ -7,7 +7,7 @@ use Rattle.std.specs.shelf.Lists.{All}
 use Rattle.units.specs.Limits.{lines-most}
 use Rattle.reader.specs.Chain.{each, skip}
 use Rattle.reader.specs.Entries.{nextGate}
-use Rattle.reader.specs.Views.{Long}
+use Rattle.reader.specs.Views.{LengthFits}
 use Rattle.reader.proofs.reader.Reader.gate_lines.Given as given
 
 -- the lines that are left, after those that are read, give what all of them give
@@ -16,6 +16,6 @@ Inv-loop-i l =
     (each nextGate (l .count - l .i) (l .self .line) (now (l .self .rest)) (vec-items (l .lines)) ≡ each nextGate (l .count) (l .entry .self .line) (now (l .entry .self .rest)) [])
     × (skip (l .count - l .i) (now (l .self .rest)) ≡ skip (l .count) (now (l .entry .self .rest)))
     × (l .self .line ≡ l .entry .self .line + l .i)
-    × All Long (vec-items (l .lines))
+    × All LengthFits (vec-items (l .lines))
     × (vec-len (l .lines) ≡ l .i)
     × (lines-most ≤ vec-cap (l .lines))

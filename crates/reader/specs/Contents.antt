@@ -20,7 +20,7 @@ pub record ClassEntry : Type 0 where
   pub depth : ℕ
 
 -- the class c is the entry c of classes, and the flows stand in the order of the text
-pub record Said : Type 0 where
+pub record Contents : Type 0 where
   pub port : ℕ
   pub cycle : ℕ
   pub gates : List GateLine

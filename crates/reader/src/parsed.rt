@@ -53,7 +53,7 @@ pub struct Place {
 
 // The class c is `classes[c]`, and the flows stand in the order of the text.
 #[derive(Drop)]
-pub struct Contents {
+pub struct Parsed {
     pub port: u16,
     pub gates: GateList,
     pub classes: [TrafficClass; 8],
