@@ -1,11 +1,17 @@
 // report: reads a plan on standard input and prints its report, or why it is refused. A refusal ends the process with status 1.
 ghost use mathlib.Core.List.{_++_};
+ghost use mathlib.Core.Logic.{_⊎_};
 ghost use mathlib.Core.Path.{_≡_};
 ghost use Prim.Native.Nat.{suc, _-_};
 ghost use lib.ListN.{take};
 ghost use Rattle.std.specs.Of.Vec.{vec-items, vec-len};
+ghost use Rattle.std.specs.Results.{Cases};
 ghost use Rattle.std.specs.Vec.{made};
+ghost use Rattle.std.specs.declared.result.Result.the-variants.{Ok, Err};
 ghost use Rattle.units.specs.Limits.{text-most};
+ghost use Rattle.faults.specs.declared.fault.PlanFault.the-variants.{Memory};
+ghost use Rattle.reader.specs.Reading.{readPlan};
+ghost use Rattle.plan.specs.PlanContents.{contents};
 use faults::LayerDisplay;
 use faults::PlanFault;
 use faults::PlanFromAlloc;
@@ -35,8 +41,10 @@ fn run(rt: &LibcRuntime) -> Result<(), AnyError> {
     }
 }
 
-// The plan that the text says.
-fn read_plan(heap: Global, text: &[u8]) -> Result<Plan, PlanFault> {
+// The plan that the text says, or why there is none.
+fn read_plan(heap: Global, text: &[u8]) -> Result<Plan, PlanFault>
+    ensures { λ r. ⌜ Cases r (λ p. Ok (contents p) ≡ readPlan (now (text .entry))) (λ e. (e ≡ Memory) ⊎ (Err e ≡ readPlan (now (text .entry)))) ⌝ }
+{
     let mut plan = Plan::new(heap)?;
     plan.read(text)?;
     Ok(plan)
