@@ -25,6 +25,7 @@ start-next (l ∷ ls) (suc i) lt = let r = start-next ls i (omega arith) in omeg
 pub start-more : (ls : List GateLine) (i : ℕ) → i < length ls → start ls (i + 1) ≡ start ls i + line ls i .length .0
 start-more ls i lt = ap (start ls) (add-one i) ∙ start-next ls i lt
 
+-- past the last line all ticks have gone by
 pub start-all : (ls : List GateLine) (n : ℕ) → length ls ≤ n → start ls n ≡ total ls
 unfolding total
 start-all [] zero le = refl
@@ -32,6 +33,7 @@ start-all [] (suc n) le = refl
 start-all (l ∷ ls) zero le = absurd (omega arith)
 start-all (l ∷ ls) (suc n) le = let r = start-all ls n (omega arith) in omega arith
 
+-- no line begins after the cycle
 pub start-most : (ls : List GateLine) (i : ℕ) → start ls i ≤ total ls
 unfolding total
 start-most ls zero = omega arith
@@ -56,10 +58,12 @@ pub within-here : (ls : List GateLine) (k i t : ℕ) → i < length ls → t < l
 unfolding within
 within-here ls k i t lt h = at-drop-more (λ xs. within xs k t) ls i (record { length = record { 0 = 0 }; gates = [] }) lt ∙ cond-true _ _ _ (lt-ltb _ _ h)
 
+-- the tick lies past the line i
 pub within-past : (ls : List GateLine) (k i t : ℕ) → i < length ls → line ls i .length .0 ≤ t → within (drop i ls) k t ≡ within (drop (i + 1) ls) k (t - line ls i .length .0)
 unfolding within
 within-past ls k i t lt h = at-drop-more (λ xs. within xs k t) ls i (record { length = record { 0 = 0 }; gates = [] }) lt ∙ cond-false _ _ _ (le-ltb _ _ h)
 
+-- no line is left
 pub within-end : (ls : List GateLine) (k i t : ℕ) → length ls ≤ i → within (drop i ls) k t ≡ false
 unfolding within
 within-end ls k i t h = at-drop-all (λ xs. within xs k t) ls i h
@@ -89,6 +93,7 @@ steady ls k i t cycle e w =
 one : (i : ℕ) → i < 1 → 0 ≡ i
 one i h = omega arith
 
+-- the list of one shut tick is lawful
 pub only-shut : (ls : List GateLine) → ls ≡ shut-line ∷ [] → Lawful ls 1
 unfolding total
 only-shut ls e = let p : List GateLine → Type 0 = λ xs. Lawful xs 1 in subst p (sym e) (record { each = λ i h. subst (λ j. 1 ≤ line (shut-line ∷ []) j .length .0) (one i h) (omega arith); together = refl; some = omega arith; few = omega arith; most = omega arith })

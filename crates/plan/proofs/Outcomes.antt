@@ -23,17 +23,21 @@ use Rattle.plan.proofs.Sorting.{groups-nil, groups-all}
 
 -- a plan that is read holds its flows in the order of the text
 module _ (text : List ℕ) (s t : Contents) (said : Ok s ≡ readPlan text) (is : t ≡ arranged s) where
+  -- so it is what the text says
   same : t ≡ s
   same =
       let sound = only-texts text s (sym said) .sound in
       is ∙ ap (λ fs. record { port = s .port; cycle = s .cycle; gates = s .gates; classes = s .classes; flows = fs }) (groups-all 8 (s .classes) first (s .flows) (omega arith) (sound .flows))
 
+  -- and the answer is that of the definition
   pub read-outcome : Ok t ≡ readPlan text
   read-outcome = ap Ok same ∙ said
 
+  -- the text is that of the plan
   pub read-written : Text-of t text
   read-written = only-texts text t (sym read-outcome)
 
+  -- and of no other
   pub read-accepted : (u : Contents) → Text-of u text → t ≡ u
   read-accepted u h = let e = read-outcome ∙ every-plan text u h in cc
 

@@ -23,6 +23,7 @@ falls-all : (cs : List ClassEntry) (p : Place) (n : ℕ) (fs : List FlowEntry) �
 falls-all cs p n [] h o = tt
 falls-all cs p n (f ∷ fs) h o = let le = o .0 .falls in let below : f .class ≤ n = omega arith in (below, falls-all cs (entryPlace f) n fs below (o .1))
 
+-- lower classes have no flow of the class c
 below-none : (c : ℕ) (k : Kind) (fs : List FlowEntry) (n : ℕ) → n < c → All (λ f. f .class ≤ n) fs → flowsOf c k fs ≡ []
 unfolding flowsOf
 below-none c k [] n h all = refl
@@ -33,9 +34,11 @@ after-periodic : (x : Flow) → kindAfter kind.Periodic (kindOf x) ≡ true → 
 after-periodic (bucket burst num den) e = let z : _≡_ {A = ℕ} 0 1 = cc in absurd (omega arith)
 after-periodic (periodic bytes period jitter) e = refl
 
+-- the place of a periodic flow
 abbrev periodicPlace : ℕ → Place
 periodicPlace c = record { class = c; kind = kind.Periodic }
 
+-- no bucket of the class follows
 no-bucket : (cs : List ClassEntry) (c : ℕ) (fs : List FlowEntry) → Ordered cs (periodicPlace c) fs → flowsOf c kind.Bucket fs ≡ []
 unfolding flowsOf
 no-bucket cs c [] o = refl
@@ -70,17 +73,21 @@ self-after : (k : Kind) → kindAfter k k ≡ true
 self-after kind.Bucket = refl
 self-after kind.Periodic = refl
 
+-- so an order may begin with its first flow
 follows-self : (cs : List ClassEntry) (p : Place) (f : FlowEntry) → FlowFits cs p f → FlowFits cs (entryPlace f) f
 follows-self cs p f h = record { falls = omega arith; sends = h .sends; kinds = λ e. self-after (kindOf (f .flow)); numbers = h .numbers }
 
+-- a kind is its own
 same-self : (k : Kind) → sameKind k k ≡ true
 same-self kind.Bucket = refl
 same-self kind.Periodic = refl
 
 module _ (n : ℕ) (f : FlowEntry) (j : Kind) (c : f .class ≡ n) (e : kindOf (f .flow) ≡ j) where
+  -- a flow of the class and kind
   passes : ofKind n j f ≡ true
   passes = and-from _ _ (eq-eqb (f .class) n c) (ap (sameKind j) e ∙ same-self j)
 
+  -- a flow of the class and another kind
   fails : (k : Kind) → sameKind k j ≡ false → ofKind n k f ≡ false
   fails k h = and-right (eqb (f .class) n) (sameKind k (kindOf (f .flow))) (ap (sameKind k) e ∙ h)
 

@@ -34,12 +34,15 @@ line-here k xs l e h = ap Ok e ∙ sym (cond-true _ _ _ (shorter 10 xs l e h))
 
 -- a number and its range
 module _ (k least most n : ℕ) where
+  -- within
   pub in-range : least ≤ n → n ≤ most → Ok n ≡ ranged k least most n
   in-range h l = sym (cond-true _ _ _ (and-from _ _ (le-leb least n h) (le-leb n most l)))
 
+  -- too small
   pub below-range : n < least → Err (Range k) ≡ ranged k least most n
   below-range h = sym (cond-false _ _ _ (and-left _ _ (lt-leb least n h)))
 
+  -- too large
   pub above-range : most < n → Err (Range k) ≡ ranged k least most n
   above-range h = sym (cond-false _ _ _ (and-right _ _ (lt-leb n most h)))
 
@@ -58,28 +61,34 @@ put-front xs i x eight h =
 
 -- one letter more: i letters are read, and the gates from 8 - i on are theirs
 module _ (gs : List Gate) (xs : List ℕ) (i : ℕ) (eight : length gs ≡ 8) (h : i < length xs) (l : i < 8) where
+  -- the letter O
   pub letter-open : getD xs i 0 ≡ 79 → lettersFrom (drop (8 - i) gs) (drop i xs) ≡ lettersFrom (drop (8 - (i + 1)) (set gs (7 - i) Open)) (drop (i + 1) xs)
   unfolding lettersFrom
   letter-open e = at-drop-more (lettersFrom (drop (8 - i) gs)) xs i 0 h ∙ cond-true _ _ _ (eq-eqb _ _ e) ∙ ap (λ r. lettersFrom r (drop (i + 1) xs)) (sym (put-front gs i Open eight l))
 
+  -- the letter C
   pub letter-shut : getD xs i 0 ≡ 67 → lettersFrom (drop (8 - i) gs) (drop i xs) ≡ lettersFrom (drop (8 - (i + 1)) (set gs (7 - i) Shut)) (drop (i + 1) xs)
   unfolding lettersFrom
   letter-shut e =
       at-drop-more (lettersFrom (drop (8 - i) gs)) xs i 0 h ∙ cond-false _ _ _ (ne-eqb (getD xs i 0) 79 (λ f. omega arith)) ∙ cond-true _ _ _ (eq-eqb _ _ e)
       ∙ ap (λ r. lettersFrom r (drop (i + 1) xs)) (sym (put-front gs i Shut eight l))
 
+-- another letter
 pub letter-other : (gs : List Gate) (xs : List ℕ) (i : ℕ) → i < length xs → (getD xs i 0 ≡ 79 → ⊥) → (getD xs i 0 ≡ 67 → ⊥) → lettersFrom gs (drop i xs) ≡ None
 unfolding lettersFrom
 letter-other gs xs i h e f = at-drop-more (lettersFrom gs) xs i 0 h ∙ cond-false _ _ _ (ne-eqb _ _ e) ∙ cond-false _ _ _ (ne-eqb _ _ f)
 
+-- all letters are read
 pub letters-end : (gs : List Gate) (xs : List ℕ) (i : ℕ) → length xs ≤ i → 8 ≤ i → lettersFrom (drop (8 - i) gs) (drop i xs) ≡ Some gs
 unfolding lettersFrom
 letters-end gs xs i h k = let z : 8 - i ≡ 0 = omega arith in at-drop-all (lettersFrom (drop (8 - i) gs)) xs i h ∙ ap (λ j. Some (drop j gs)) z
 
+-- not eight letters
 pub gates-short : (k : ℕ) (xs : List ℕ) → (length xs ≡ 8 → ⊥) → Err (Form k) ≡ gatesIn k xs
 unfolding gatesIn
 gates-short k xs h = sym (cond-false _ _ _ (ne-eqb _ 8 h))
 
+-- eight letters, and what they write
 pub gates-are : (k : ℕ) (xs : List ℕ) (o : Option (List Gate)) → length xs ≡ 8 → lettersFrom [] xs ≡ o → okOr o (Form k) ≡ gatesIn k xs
 unfolding gatesIn
 gates-are k xs o h e = ap (λ p. okOr p (Form k)) (sym e) ∙ sym (cond-true _ _ _ (eq-eqb _ 8 h))
@@ -92,6 +101,7 @@ rate-high burst num den a b c d none =
     (λ (h : num ≤ den). absurd (none (record { burst-low = a; burst-high = b; den-low = c; den-high = d; num-high = h })))
     (cases-lt den num)
 
+-- the jitter of a periodic flow that is refused
 pub jitter-high : (k bytes period jitter : ℕ) → frame-least ≤ bytes → bytes ≤ frame-most → 1 ≤ period → period ≤ period-most → (PeriodicRange bytes period jitter → ⊥) → Err (Range k) ≡ ranged k 0 jitter-most jitter
 jitter-high k bytes period jitter a b c d none =
     ⊎-elim
@@ -103,11 +113,13 @@ jitter-high k bytes period jitter a b c d none =
 room-none : (m : ℕ) → m ≡ 0 → roomMost m ≡ 0
 room-none m h = cond-true _ _ _ (eq-eqb m 0 h)
 
+-- the room of a class that sends
 room-some : (m : ℕ) → 1 ≤ m → roomMost m ≡ depth-most
 room-some m h = cond-false _ _ _ (ne-eqb m 0 (λ e. omega arith))
 
 -- the depth is in its range exactly where the sizes are those of a class
 module _ (m d : ℕ) where
+  -- a depth in its range gives sizes that a class may have
   pub in-room : m ≤ frame-most → (1 ≤ m → frame-least ≤ m) → m ≤ d → d ≤ roomMost m → Sized m d
   in-room most least low high =
       ⊎-elim
@@ -115,6 +127,7 @@ module _ (m d : ℕ) where
       (λ (h : 1 ≤ m). let r = room-some m h in record { most = most; least = least; room = low; deep = omega arith; silent = λ e. absurd (omega arith) })
       (cases-lt m 1)
 
+  -- and such sizes have a depth in its range
   room-in : Sized m d → d ≤ roomMost m
   room-in s =
       ⊎-elim
@@ -122,6 +135,7 @@ module _ (m d : ℕ) where
       (λ (h : 1 ≤ m). let r = room-some m h in omega (arith, s .deep))
       (cases-lt m 1)
 
+  -- no such sizes: the depth is out of range
   outside : (k : ℕ) → m ≤ frame-most → (1 ≤ m → frame-least ≤ m) → (Sized m d → ⊥) → Err (Range k) ≡ ranged k m (roomMost m) d
   outside k most least none =
       ⊎-elim
@@ -133,9 +147,11 @@ module _ (m d : ℕ) where
       (cases-lt (roomMost m) d))
       (cases-lt d m)
 
+-- a largest frame and a depth
 abbrev sizesWith : ℕ → ℕ → ClassEntry
 sizesWith m d = record { largest = m; depth = d }
 
+-- making a class does the last check of its line
 pub sized-is : (k m d : ℕ) (o : Option TrafficClass) → m ≤ frame-most → (1 ≤ m → frame-least ≤ m) →
     BySome o (Sized m d → ⊥) (λ t. (t .largest ≡ record { 0 = m }) × (t .depth ≡ record { 0 = d })) →
     mapOk sizesOf (okOr o (Range k)) ≡ andThen (ranged k m (roomMost m) d) (λ n. Ok (sizesWith m n))

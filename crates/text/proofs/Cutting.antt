@@ -21,14 +21,17 @@ unfolding at
 at-le c [] = omega arith
 at-le c (x ∷ xs) = let h = at-le c xs in elim (eqb x c) as (λ b. cond b 0 (suc (at c xs)) ≤ suc (length xs)) [ true ↦ omega arith | false ↦ omega arith ]
 
+-- a search that goes forward: the byte is here
 pub at-here : (c : ℕ) (xs : List ℕ) (i : ℕ) → i < length xs → getD xs i 0 ≡ c → at c (drop i xs) ≡ 0
 unfolding at
 at-here c xs i h e = at-drop-more (at c) xs i 0 h ∙ cond-true _ _ _ (eq-eqb _ _ e)
 
+-- it is further on
 pub at-on : (c : ℕ) (xs : List ℕ) (i : ℕ) → i < length xs → (getD xs i 0 ≡ c → ⊥) → at c (drop i xs) ≡ suc (at c (drop (i + 1) xs))
 unfolding at
 at-on c xs i h e = at-drop-more (at c) xs i 0 h ∙ cond-false _ _ _ (ne-eqb _ _ e)
 
+-- there is nothing left
 pub at-end : (c : ℕ) (xs : List ℕ) (i : ℕ) → length xs ≤ i → at c (drop i xs) ≡ 0
 unfolding at
 at-end c xs i h = at-drop-all (at c) xs i h
@@ -37,6 +40,7 @@ at-end c xs i h = at-drop-all (at c) xs i h
 pub shorter : (c : ℕ) (xs l : List ℕ) → l ≡ before c xs → length l < length xs → has c xs ≡ true
 shorter c xs l e h = lt-ltb _ _ (omega (arith, ap length e, length-take-le (at c xs) xs (at-le c xs)))
 
+-- a front that is read byte by byte
 strip-from : (p xs : List ℕ) (i : ℕ) → i + length p ≤ length xs → ReadsAt xs i p → Some (drop (i + length p) xs) ≡ strip p (drop i xs)
 strip-from [] xs i h r = ap (λ n. Some (drop n xs)) (omega arith)
 strip-from (c ∷ p) xs i h r =
@@ -68,6 +72,7 @@ counted-has c (x ∷ xs) h =
     omega arith)
     (cases-bool (eqb x c))
 
+-- a byte that is not counted does not stand in the text
 pub none-counted : (c : ℕ) (xs : List ℕ) → howMany c xs ≤ 0 → length xs ≤ at c xs
 unfolding at howMany
 none-counted c [] h = omega arith

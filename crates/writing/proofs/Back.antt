@@ -151,13 +151,13 @@ header-back text h e =
 lawful : (gs : List GateLine) (cycle : ℕ) → All GateFits gs → total gs ≡ cycle → 1 ≤ length gs → length gs ≤ lines-most → cycle ≤ cycle-most → Lawful gs cycle
 lawful gs cycle fit sum some few most = record { each = λ i h. all-getD GateFits gs i _ h fit .0; together = sum; some = some; few = few; most = most }
 
-abbrev contentsOf : Header → List GateLine → List ClassEntry → List FlowEntry → Contents
-contentsOf h gs cs fs = record { port = h .port; cycle = h .cycle; gates = gs; classes = cs; flows = fs }
+abbrev contentsWith : Header → List GateLine → List ClassEntry → List FlowEntry → Contents
+contentsWith h gs cs fs = record { port = h .port; cycle = h .cycle; gates = gs; classes = cs; flows = fs }
 
 -- the parts of a text that is read, put together
 whole : (text : List ℕ) (h : Header) (gs : List GateLine) (cs : List ClassEntry) (fs : List FlowEntry) →
     headerIn text ≡ Ok h → gatesListed (h .cycle) (h .gates) (skip 3 text) ≡ Ok gs → classesListed (4 + h .gates) (skip (h .gates) (skip 3 text)) ≡ Ok cs →
-    flowsListed cs (12 + h .gates) (skip classes (skip (h .gates) (skip 3 text))) ≡ Ok fs → Sound (contentsOf h gs cs fs) × (text ≡ write (contentsOf h gs cs fs))
+    flowsListed cs (12 + h .gates) (skip classes (skip (h .gates) (skip 3 text))) ≡ Ok fs → Sound (contentsWith h gs cs fs) × (text ≡ write (contentsWith h gs cs fs))
 unfolding write
 whole text h gs cs fs p q r t =
     let a = header-back text h p in

@@ -7,13 +7,16 @@ use borrow.Author.Needs.{needs}
 use lib.Dec.{leb}
 use Rattle.std.proofs.shelf.Numerals.{Numerals, numerals-by-fold}
 
+-- every byte is a digit
 abbrev pub digitsOnly : List ℕ → Bool
 digitsOnly [] = true
 digitsOnly (x ∷ xs) = (leb 48 x && leb x 57) && digitsOnly xs
 
+-- the number that digits write after n
 abbrev pub readOn : ℕ → List ℕ → ℕ
 readOn n [] = n
 readOn n (x ∷ xs) = readOn (n * 10 + (x - 48)) xs
 
+-- these are numerals as the library knows them
 pub own : Numerals (λ ds. digitsOnly ds ≡ true) (readOn 0)
 own = numerals-by-fold _ (search needs) readOn (search needs)

@@ -29,9 +29,11 @@ use Rattle.writing.proofs.Digits.{digitsOnly, readOn, own}
 pub ok-ok : {A E : Type 0} {a b : A} → _≡_ {A = Result A E} (Ok a) (Ok b) → a ≡ b
 ok-ok e = cc
 
+-- a fault is no good result
 pub err-ok : {A E : Type 0} {a : A} {x : E} → _≡_ {A = Result A E} (Err x) (Ok a) → ⊥
 err-ok e = let z : _≡_ {A = ℕ} 0 1 = cc in omega arith
 
+-- nothing is not something
 none-some : {A : Type 0} {a : A} → _≡_ {A = Option A} None (Some a) → ⊥
 none-some e = let z : _≡_ {A = ℕ} 0 1 = cc in omega arith
 
@@ -40,10 +42,12 @@ pub then-ok : {A B E : Type 0} (r : Result A E) (f : A → Result B E) (b : B) �
 then-ok (Ok a) f b e = (a, refl, e)
 then-ok (Err x) f b e = absurd (err-ok e)
 
+-- a good result under a fault of a higher layer
 pub within-ok : {A E F : Type 0} (g : E → F) (r : Result A E) (a : A) → within g r ≡ Ok a → r ≡ Ok a
 within-ok g (Ok b) a e = ap Ok (ok-ok e)
 within-ok g (Err x) a e = absurd (err-ok e)
 
+-- a good result from an option
 pub or-ok : {A E : Type 0} (o : Option A) (x : E) (a : A) → okOr o x ≡ Ok a → o ≡ Some a
 or-ok None x a e = absurd (err-ok e)
 or-ok (Some b) x a e = ap Some (ok-ok e)
@@ -53,14 +57,17 @@ pub cond-ok : {A E : Type 0} (b : Bool) (r : Result A E) (x : E) (a : A) → con
 cond-ok true r x a e = (refl, e)
 cond-ok false r x a e = absurd (err-ok e)
 
+-- a test that has to fail
 pub cond-ok-not : {A E : Type 0} (b : Bool) (r : Result A E) (x : E) (a : A) → cond b (Err x) r ≡ Ok a → (b ≡ false) × (r ≡ Ok a)
 cond-ok-not true r x a e = absurd (err-ok e)
 cond-ok-not false r x a e = (refl, e)
 
+-- a test in front of an option
 pub cond-some : {A : Type 0} (b : Bool) (r : Option A) (a : A) → cond b r None ≡ Some a → (b ≡ true) × (r ≡ Some a)
 cond-some true r a e = (refl, e)
 cond-some false r a e = absurd (none-some e)
 
+-- a test in front of an option that has to fail
 cond-some-not : {A : Type 0} (b : Bool) (r : Option A) (a : A) → cond b None r ≡ Some a → (b ≡ false) × (r ≡ Some a)
 cond-some-not true r a e = absurd (none-some e)
 cond-some-not false r a e = (refl, e)
@@ -87,6 +94,7 @@ numeral-back n (x ∷ xs) e =
     let one : x ≡ 48 → suc (length xs) ≡ 1 = λ z. ⊎-elim (λ f. absurd (eqb-false x 48 f z)) (λ f. let l = ltb-false 0 (length xs) f in omega arith) (and-cases (eqb x 48) (ltb 0 (length xs)) (p .0)) in
     sym (ap decimal (sym (d .1)) ∙ decimal-value own (x ∷ xs) (d .0) (omega arith) one (omega arith))
 
+-- a field with a number
 pub numeral-field-back : (k n : ℕ) (xs : List ℕ) → numeralField k xs ≡ Ok n → xs ≡ decimal n
 numeral-field-back k n xs e = numeral-back n xs (or-ok (numeralIn xs) _ n e)
 
@@ -97,6 +105,7 @@ ranged-back k least most m n e =
     let q = and-parts (leb least m) (leb m most) (p .0) in
     (ok-ok (p .1), leb-true least m (q .0), leb-true m most (q .1))
 
+-- a field with a number in its range
 pub number-back : (k least most n : ℕ) (xs : List ℕ) → numberField k least most xs ≡ Ok n → (xs ≡ decimal n) × (least ≤ n) × (n ≤ most)
 unfolding numberField
 number-back k least most n xs e =
@@ -117,6 +126,7 @@ at-is c (x ∷ xs) h =
     (λ (e : eqb x c ≡ false). let s = cond-false (eqb x c) 0 (suc (at c xs)) e in ap (λ n. getD (x ∷ xs) n 0) s ∙ at-is c xs (omega arith))
     (cases-bool (eqb x c))
 
+-- a text that has the byte c is cut there
 pub has-cut : (c : ℕ) (xs : List ℕ) → has c xs ≡ true → xs ≡ before c xs ++ (c ∷ past c xs)
 has-cut c xs e =
     let h = ltb-true _ _ e in
@@ -144,5 +154,6 @@ past-one c (x ∷ xs) m e =
 pub cut : (v : List ℕ) (m : ℕ) → howMany 44 v ≡ suc m → (v ≡ before 44 v ++ (44 ∷ past 44 v)) × (howMany 44 (past 44 v) ≡ m)
 cut v m e = (has-cut 44 v (lt-ltb _ _ (counted-has 44 v (omega arith))), past-one 44 v m e)
 
+-- the last field has no comma
 pub last : (v : List ℕ) → howMany 44 v ≡ 0 → v ≡ before 44 v
 last v e = sym (take-all (at 44 v) v (none-counted 44 v (omega arith)))
