@@ -22,3 +22,7 @@ Only-texts = (text : List ℕ) (s : Contents) → readPlan text ≡ Ok s → Tex
 -- the text of a plan is read as that plan
 abbrev pub Every-plan : Type 0
 Every-plan = (text : List ℕ) (s : Contents) → Text-of s text → readPlan text ≡ Ok s
+
+-- no plan has a text that is too long to be read
+abbrev pub Short-texts : Type 0
+Short-texts = (s : Contents) → Sound s → length (write s) ≤ text-most
