@@ -12,7 +12,7 @@ use Rattle.std.specs.Orderings.{Decides}
 use Rattle.std.proofs.shelf.Lists.{at-drop-more, at-drop-all}
 use Rattle.std.proofs.shelf.Tests.{lt-ltb, le-ltb, cond-true, cond-false}
 use Rattle.gates.specs.declared.gate_line.GateLine.{GateLine}
-use Rattle.gates.specs.Opened.{total, shows, within, opened, start, line, shut-line, Within, Lawful}
+use Rattle.gates.specs.Opened.{total, shows, within, opened, start, line, shut-line, InLine, Lawful}
 
 -- where one line ends the next begins
 pub start-next : (ls : List GateLine) (i : ℕ) → i < length ls → start ls (suc i) ≡ start ls i + line ls i .length .0
@@ -83,7 +83,7 @@ unfolding opened
 repeats ls k t n cycle e = (λ i. within ls k ((t + n * cycle) % e i)) ∙ ap (within ls k) (add-mul-mod-self-right t n cycle) ∙ (λ i. within ls k (t % sym e i))
 
 -- at each tick of a line, in any cycle, the gates stand as the line says
-pub steady : (ls : List GateLine) (k i t cycle : ℕ) → total ls ≡ cycle → Within ls i (t % cycle) → opened ls k t ≡ shows (line ls i) k
+pub steady : (ls : List GateLine) (k i t cycle : ℕ) → total ls ≡ cycle → InLine ls i (t % cycle) → opened ls k t ≡ shows (line ls i) k
 unfolding opened
 steady ls k i t cycle e w =
     let s = start-next ls i (w .there) in

@@ -42,7 +42,7 @@ abbrev pub line : List GateLine → ℕ → GateLine
 line ls i = getD ls i (record { length = record { 0 = 0 }; gates = [] })
 
 -- the tick t of the first cycle lies in the line i
-pub record Within (ls : List GateLine) (i t : ℕ) : Type 0 where
+pub record InLine (ls : List GateLine) (i t : ℕ) : Type 0 where
   pub there : i < length ls
   pub begun : start ls i ≤ t
   pub ends : t < start ls (suc i)

@@ -8,7 +8,7 @@ ghost use Rattle.std.specs.Options.{Cases as BySome};
 ghost use Rattle.std.specs.Vec.{made};
 ghost use Rattle.std.specs.Orderings.{Decides};
 ghost use Rattle.units.specs.Limits.{lines-most, cycle-most};
-ghost use Rattle.gates.specs.Opened.{total, line, shows, within, opened, Within, Lawful, shut-line};
+ghost use Rattle.gates.specs.Opened.{total, line, shows, within, opened, InLine, Lawful, shut-line};
 use crate::gate_line::Gate;
 use crate::gate_line::GateLine;
 use std::alloc::AllocError;
@@ -75,7 +75,7 @@ impl GateList {
     pub fn is_open(&self, class: u8, tick: Ticks) -> bool
         ensures value { λ r. ⌜ r ≡ opened (vec-items (now (self .entry) .lines)) class (tick .0) ⌝ }
         ensures repeats { λ r. ⌜ ((n : ℕ) → opened (vec-items (now (self .entry) .lines)) class (tick .0 + n * now (self .entry) .cycle .0) ≡ r) ⌝ }
-        ensures steady { λ r. ⌜ ((i : ℕ) → Within (vec-items (now (self .entry) .lines)) i (tick .0 % now (self .entry) .cycle .0) → r ≡ shows (line (vec-items (now (self .entry) .lines)) i) class) ⌝ }
+        ensures steady { λ r. ⌜ ((i : ℕ) → InLine (vec-items (now (self .entry) .lines)) i (tick .0 % now (self .entry) .cycle .0) → r ≡ shows (line (vec-items (now (self .entry) .lines)) i) class) ⌝ }
     {
         open_at(self.lines(), class, tick.0 % self.cycle.0)
     }
