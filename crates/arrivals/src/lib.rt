@@ -1,4 +1,6 @@
 // What may arrive for a traffic class: the envelope of all its flows.
+#![tactic(auto)]
+
 ghost use Rattle.std.specs.Prelude.{◌≡◌, ℕ, ◌<◌, ◌≤◌, length, MatchResult};
 ghost use Rattle.units.specs.declared.refusal.Refusal.TheVariants.{NoClass};
 ghost use Rattle.plan.specs.PlanContents.{contents};

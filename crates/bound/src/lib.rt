@@ -1,4 +1,6 @@
 // Delay and held bytes over any supply and any envelope.
+#![tactic(auto)]
+
 ghost use Rattle.bound.specs.Means.{BoundsMean};
 
 mod search;

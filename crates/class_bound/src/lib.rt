@@ -1,4 +1,6 @@
 // Delay and held bytes of a traffic class of a plan.
+#![tactic(auto)]
+
 ghost use Rattle.std.specs.Prelude.{◌<◌, length, MatchResult};
 ghost use Rattle.plan.specs.PlanContents.{contents};
 ghost use Rattle.arrivals.specs.ClassAlpha.{class_flows, class_alpha};

@@ -1,4 +1,6 @@
 // The curve of a traffic class: the least number of its sure ticks in any window of a length, and the laws it keeps.
+#![tactic(auto)]
+
 ghost use Rattle.curve.specs.Laws.{CurveLaws};
 
 mod mark;

@@ -1,5 +1,7 @@
 // curve_bench: asks the service of a class as often as each line of standard input says, `curve 1000` or `inverse 1000`, or makes it so
 // often, `make 1000`, and prints the line with the sum of the answers. bench/run takes the time.
+#![tactic(auto)]
+
 use anyhow::{Context, anyhow};
 use plan::Plan;
 use service::ClassService;

@@ -1,4 +1,6 @@
 // The arrival envelopes of flows: how many bytes may be offered in any span of ticks.
+#![tactic(auto)]
+
 mod bucket;
 mod envelope_trait;
 mod load;

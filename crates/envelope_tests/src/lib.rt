@@ -1,4 +1,6 @@
 // Envelopes on examples, through the public calls.
+#![tactic(auto)]
+
 
 #[cfg(test)]
 mod tests {

@@ -1,4 +1,6 @@
 // An example of an envelope kind of one's own: so many bytes once, whatever the span.
+#![tactic(auto)]
+
 ghost use Rattle.units.specs.Limits.{most_span};
 ghost use Rattle.flat_envelope.specs.FlatLaws.{flat_bytes, flat_laws};
 

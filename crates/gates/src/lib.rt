@@ -1,4 +1,6 @@
 // The gate control list of a port, and the traffic classes that its gates let out.
+#![tactic(auto)]
+
 mod gate_line;
 mod gate_list;
 mod traffic_class;

@@ -1,4 +1,6 @@
 // What the plan tells on examples, through its public calls.
+#![tactic(auto)]
+
 
 // The plan that the documents use as their example.
 pub const WORKED: &[u8] =

@@ -1,4 +1,6 @@
 // From a plan text to what it says: the lines in their order, each field with its form and range.
+#![tactic(auto)]
+
 mod entries;
 mod fields;
 mod lists;

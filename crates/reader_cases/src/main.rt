@@ -1,5 +1,7 @@
 // reader_cases: reads a table of plan texts with what the reader should answer to each, and prints the cases in which it answers
 // otherwise. docs/checking.md says how the table is written.
+#![tactic(auto)]
+
 use anyhow::Context;
 use plan::Plan;
 use std::alloc::{AllocError, Global};

@@ -1,4 +1,6 @@
 // report: reads a plan on standard input and prints its report, or why it is refused. A refusal ends the process with status 1.
+#![tactic(auto)]
+
 ghost use Rattle.std.specs.Prelude.{◌≡◌, suc, ◌-◌, ◌⊎◌, ◌++◌, take, Ok, Err, vec_len, MatchResult, OnOk};
 ghost use Rattle.units.specs.Limits.{most_text};
 ghost use Rattle.faults.specs.declared.fault.PlanFault.TheVariants.{Memory};

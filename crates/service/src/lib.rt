@@ -1,4 +1,6 @@
 // The service of a traffic class: its curve at any span, and the least span that has enough.
+#![tactic(auto)]
+
 mod calls;
 mod class_service;
 mod search;

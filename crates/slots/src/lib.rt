@@ -1,4 +1,6 @@
 // The slots of a traffic class, its sure ticks and its block, found by walking over the gate lines of a plan.
+#![tactic(auto)]
+
 mod blocking;
 mod calls;
 mod find;

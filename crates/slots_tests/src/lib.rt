@@ -1,4 +1,6 @@
 // Slots, sure ticks and block of classes on examples, through the public calls.
+#![tactic(auto)]
+
 
 // The gates and classes of the plan that the documents use as their example.
 pub const WORKED: &[u8] =

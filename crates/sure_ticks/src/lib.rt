@@ -1,4 +1,6 @@
 // The sure ticks of a traffic class: what they are, tick by tick, and what holds of them whatever the gates.
+#![tactic(auto)]
+
 ghost use Rattle.sure_ticks.specs.Laws.{SlotsApart, SureLengths, SureStartable};
 
 mod slot;

@@ -1,4 +1,6 @@
 // Time, load and refusals: the words that every layer above uses.
+#![tactic(auto)]
+
 mod amounts;
 pub mod limits;
 mod refusal;
