@@ -1,7 +1,6 @@
 // Delay and held bytes on examples, through the public calls.
 #![tactic(auto)]
 
-
 #[cfg(test)]
 mod tests {
     use class_bound::{bound, bound_under};

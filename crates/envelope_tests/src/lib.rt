@@ -1,7 +1,6 @@
 // Envelopes on examples, through the public calls.
 #![tactic(auto)]
 
-
 #[cfg(test)]
 mod tests {
     use arrivals::class_envelope;

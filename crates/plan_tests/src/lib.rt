@@ -1,7 +1,6 @@
 // What the plan tells on examples, through its public calls.
 #![tactic(auto)]
 
-
 // The plan that the documents use as their example.
 pub const WORKED: &[u8] =
     b"port=3\ncycle=2000\ngates=4\ngate=500,OCCCCCCC\ngate=300,OCOCCCCO\ngate=700,CCOCCCCO\ngate=500,CCCCCCCO\nclass=7,200,400\nclass=6,0,0\nclass=5,300,600\nclass=4,0,0\nclass=3,0,0\nclass=2,0,0\nclass=1,0,0\nclass=0,150,16384\nflows=2\nflow=7,p,200,2000,0\nflow=5,b,300,1,10\n";

@@ -1,7 +1,6 @@
 // The curve of a class and its inverse on examples, through the public calls.
 #![tactic(auto)]
 
-
 #[cfg(test)]
 mod tests {
     use plan::Plan;

@@ -2,21 +2,21 @@ use Rattle.std.proofs.lemmas.Result.{err_from_is_err_and}
 use Rattle.envelope.proofs.Rows.{total_far, total_next, total_stops, total_all}
 use Rattle.envelope.proofs.totals.total.Goals as goal
 
-pub returns-then-span-gt-FLOW-REACH : goal.returns-then-span-gt-FLOW-REACH
-returns-then-span-gt-FLOW-REACH g c =
-    let e = g.E.Envelope in total_far e.reach e.alpha c.args.row.now c.args.span.0 c.if-span-gt-FLOW-REACH.true
+pub returns-then-span-gt-FLOW_REACH : goal.returns-then-span-gt-FLOW_REACH
+returns-then-span-gt-FLOW_REACH g c =
+    let e = g.E.Envelope in total_far e.reach e.alpha c.args.row.now c.args.span.0 c.if-span-gt-FLOW_REACH.true
 
-pub returns-in-err-at : goal.returns-in-err-at
-returns-in-err-at g c =
+pub returns-in_err-at : goal.returns-in_err-at
+returns-in_err-at g c =
     let e = g.E.Envelope in
-    let p = err_from_is_err_and c.from-residual.result c.from-residual.ensures.1 in
-    rw (p.1, p.2) (total_stops e.reach e.alpha c.args.row.now c.args.span.0 c.loop-each.Each-index c.each-item.result _ c.loop-each-test.true c.each-item.is c.in-err-at.ensures)
+    let p = err_from_is_err_and c.from_residual.result c.from_residual.ensures.1 in
+    rw (p.1, p.2) (total_stops e.reach e.alpha c.args.row.now c.args.span.0 c.loop-each.Each-index c.each-item.result _ c.loop-each-test.true c.each-item.is c.in_err-at.ensures)
 
 pub loop-each-preserved : goal.loop-each-preserved
 loop-each-preserved g c =
     let e = g.E.Envelope in
-    total_next e.reach e.alpha c.args.row.now c.args.span.0 c.loop-each.Each-index c.each-item.result c.loop-each.sum c.in-ok-at.field-0 c.plus-sum.result
-    c.loop-each-test.true c.each-item.is c.loop-each.invariant.0 c.loop-each.invariant.1 c.in-ok-at.ensures c.plus-sum.ensures
+    total_next e.reach e.alpha c.args.row.now c.args.span.0 c.loop-each.Each-index c.each-item.result c.loop-each.sum c.in_ok-at.field-0 c.plus-sum.result
+    c.loop-each-test.true c.each-item.is c.loop-each.invariant.0 c.loop-each.invariant.1 c.in_ok-at.ensures c.plus-sum.ensures
 
 pub returns : goal.returns
 returns g c =

@@ -3,7 +3,7 @@ use Rattle.std.proofs.lemmas.Bool.{eqb-true, eq-eqb}
 use Rattle.gates.specs.Opened.{total}
 use Rattle.gates.proofs.Lines.{start_more, start_all, line_most, refuted}
 use Rattle.gates.proofs.gate_list.lawful.Goals as goal
-use Rattle.gates.proofs.gate_list.lawful.Goals.{then-line-lt1-via-then-line-lt1, then-line-lt1-via-else-line-lt1+then-line-gt-MAX-CYCLE}
+use Rattle.gates.proofs.gate_list.lawful.Goals.{then-line-lt1-via-then-line-lt1, then-line-lt1-via-else-line-lt1+then-line-gt-MAX_CYCLE}
 
 pub loop-line-init : goal.loop-line-init
 unfolding total
@@ -15,7 +15,7 @@ returns-then-line-lt1 c =
     let lt = c.loop-line-test.true in
     elim c.then-line-lt1.branch [
       | then-line-lt1-via-then-line-lt1 w ↦ refuted _ (λ law. omega (arith, law.each at lt, w.if-line-lt1.true))
-      | then-line-lt1-via-else-line-lt1+then-line-gt-MAX-CYCLE w ↦ refuted _ (λ law. omega (arith, line_most c.args.lines.now at lt, law.together, law.most, w.if-line-gt-MAX-CYCLE.true))
+      | then-line-lt1-via-else-line-lt1+then-line-gt-MAX_CYCLE w ↦ refuted _ (λ law. omega (arith, line_most c.args.lines.now at lt, law.together, law.most, w.if-line-gt-MAX_CYCLE.true))
     ]
 
 pub loop-line-preserved : goal.loop-line-preserved

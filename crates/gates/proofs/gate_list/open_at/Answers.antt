@@ -6,7 +6,7 @@ pub loop-line-init : goal.loop-line-init
 loop-line-init c = refl
 
 pub returns-then-left-line : goal.returns-then-left-line
-returns-then-left-line c = c.is-open.ensures ∙ sym (within_here c.args.lines.now c.args.class c.loop-line.line-index c.loop-line.left c.loop-line-test.true c.if-left-line.true) ∙ c.loop-line.invariant
+returns-then-left-line c = c.is_open.ensures ∙ sym (within_here c.args.lines.now c.args.class c.loop-line.line-index c.loop-line.left c.loop-line-test.true c.if-left-line.true) ∙ c.loop-line.invariant
 
 pub loop-line-preserved : goal.loop-line-preserved
 loop-line-preserved c = sym (within_past c.args.lines.now c.args.class c.loop-line.line-index c.loop-line.left c.loop-line-test.true c.if-left-line.false) ∙ c.loop-line.invariant

@@ -8,9 +8,9 @@ use Rattle.plan.proofs.class_flows.arrange.Goals as goal
 pub loop-i-preserved : goal.loop-i-preserved
 loop-i-preserved c =
     let es = map entry_of c.args.flows.now in
-    let f = c.in-ok-of-class.of-class in
-    let h = c.in-ok-of-class.ensures in
-    let put = c.in-ok-push.ensures in (
+    let f = c.in_ok-of_class.of_class in
+    let h = c.in_ok-of_class.ensures in
+    let put = c.in_ok-push.ensures in (
       ap (λ fs. entries_down 7 fs ++ groups (8 - (c.loop-i.i + 1)) es) put.items
           ∙ groups_more c.loop-i.i es (vec_items c.loop-i.classes) f c.loop-i-test.true (sym c.loop-i.classes.ok.0 ∙ c.loop-i.invariant.1) h.buckets h.periodics ∙ c.loop-i.invariant.0,
       omega (arith, put.len, c.loop-i.invariant.1),

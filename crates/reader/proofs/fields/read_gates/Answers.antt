@@ -10,8 +10,8 @@ returns-then-text-ne8 c = gates_short _ _ c.if-text-ne8.true
 pub loop-i-init : goal.loop-i-init
 loop-i-init c = (refl, refl)
 
-pub returns-in-default : goal.returns-in-default
-returns-in-default c =
+pub returns-in_default : goal.returns-in_default
+returns-in_default c =
     gates_are _ c.args.text.now _ c.if-text-ne8.false
     (sym c.loop-i.invariant.0 ∙ letter_other _ c.args.text.now c.loop-i.i c.loop-i-test.true (search rules) (search rules))
 

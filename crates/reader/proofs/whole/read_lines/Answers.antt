@@ -2,21 +2,21 @@ use Rattle.std.proofs.Common.{rules}
 use Rattle.reader.specs.Reading.{read_lines}
 use Rattle.reader.proofs.whole.read_lines.Goals as goal
 
-pub returns-in-err-header : goal.returns-in-err-header
+pub returns-in_err-header : goal.returns-in_err-header
 unfolding read_lines
-returns-in-err-header c = search rules
+returns-in_err-header c = search rules
 
-pub returns-in-err-gates : goal.returns-in-err-gates
+pub returns-in_err-gates : goal.returns-in_err-gates
 unfolding read_lines
-returns-in-err-gates c = search rules
+returns-in_err-gates c = search rules
 
-pub returns-in-err-classes : goal.returns-in-err-classes
+pub returns-in_err-classes : goal.returns-in_err-classes
 unfolding read_lines
-returns-in-err-classes c = search rules
+returns-in_err-classes c = search rules
 
-pub returns-in-err-flows : goal.returns-in-err-flows
+pub returns-in_err-flows : goal.returns-in_err-flows
 unfolding read_lines
-returns-in-err-flows c = search rules
+returns-in_err-flows c = search rules
 
 pub returns : goal.returns
 unfolding read_lines

@@ -37,36 +37,36 @@ small L ss ms r j n h l =
     let s = lengths_most L ss r.apart in
     omega (arith, t.1, r.short)
 
-pub overflow-add-done-in-loop-j : goal.overflow-add-done-in-loop-j
-overflow-add-done-in-loop-j c = let s = small c.args.cycle c.args.slots.now c.args.marks.now c.requires.ready c.loop-j.j c.args.ticks c.loop-j-test.true c.requires.there in omega arith
+pub overflow_add-done-in-loop-j : goal.overflow_add-done-in-loop-j
+overflow_add-done-in-loop-j c = let s = small c.args.cycle c.args.slots.now c.args.marks.now c.requires.ready c.loop-j.j c.args.ticks c.loop-j-test.true c.requires.there in omega arith
 
-pub reach-tick-k-requires : goal.reach-tick-k-requires
-reach-tick-k-requires c =
+pub reach_tick-k-requires : goal.reach_tick-k-requires
+reach_tick-k-requires c =
     let t = slot_marks c.args.cycle c.args.slots.now c.args.marks.now c.requires.ready c.loop-j.j c.loop-j-test.true in
     let l = last_before c.args.cycle c.args.slots.now c.args.marks.now c.requires.ready in
     record { there = c.loop-j.invariant.0; begun = omega (arith, c.loop-j.invariant.1, t.0); inside = omega (arith, t.1, c.requires.there) }
 
-pub overflow-add-end : goal.overflow-add-end
-overflow-add-end c = let s = small c.args.cycle c.args.slots.now c.args.marks.now c.requires.ready c.loop-j.j c.args.ticks c.loop-j-test.true c.requires.there in omega arith
+pub overflow_add-end : goal.overflow_add-end
+overflow_add-end c = let s = small c.args.cycle c.args.slots.now c.args.marks.now c.requires.ready c.loop-j.j c.args.ticks c.loop-j-test.true c.requires.there in omega arith
 
-pub overflow-add-end-in-loop-j : goal.overflow-add-end-in-loop-j
-overflow-add-end-in-loop-j c =
-    let k = c.reach-tick-k.result in
-    let t = tick_turn c.args.cycle c.args.slots.now c.args.marks.now c.requires.ready c.loop-j.j k c.args.ticks c.loop-j-test.true c.reach-tick-k.ensures.there c.requires.some c.reach-tick-k.ensures.begun c.reach-tick-k.ensures.ends in
-    let p = place_le c.args.cycle c.args.slots.now c.args.marks.now c.requires.ready (k + 1) c.reach-tick-k.ensures.there in
+pub overflow_add-end-in-loop-j : goal.overflow_add-end-in-loop-j
+overflow_add-end-in-loop-j c =
+    let k = c.reach_tick-k.result in
+    let t = tick_turn c.args.cycle c.args.slots.now c.args.marks.now c.requires.ready c.loop-j.j k c.args.ticks c.loop-j-test.true c.reach_tick-k.ensures.there c.requires.some c.reach_tick-k.ensures.begun c.reach_tick-k.ensures.ends in
+    let p = place_le c.args.cycle c.args.slots.now c.args.marks.now c.requires.ready (k + 1) c.reach_tick-k.ensures.there in
     omega (arith, t.1, c.requires.ready.short)
 
-pub overflow-sub-done : goal.overflow-sub-done
-overflow-sub-done c = (slot_marks c.args.cycle c.args.slots.now c.args.marks.now c.requires.ready c.loop-j.j c.loop-j-test.true).0
+pub overflow_sub-done : goal.overflow_sub-done
+overflow_sub-done c = (slot_marks c.args.cycle c.args.slots.now c.args.marks.now c.requires.ready c.loop-j.j c.loop-j-test.true).0
 
-pub overflow-add-mark : goal.overflow-add-mark
-overflow-add-mark c =
+pub overflow_add-mark : goal.overflow_add-mark
+overflow_add-mark c =
     let t = slot_marks c.args.cycle c.args.slots.now c.args.marks.now c.requires.ready c.loop-j.j c.loop-j-test.true in
     omega (arith, t.3, c.requires.ready.short)
 
-pub overflow-sub-end-in-loop-j : goal.overflow-sub-end-in-loop-j
-overflow-sub-end-in-loop-j c =
-    let t = tick_turn c.args.cycle c.args.slots.now c.args.marks.now c.requires.ready c.loop-j.j c.reach-tick-k.result c.args.ticks c.loop-j-test.true c.reach-tick-k.ensures.there c.requires.some c.reach-tick-k.ensures.begun c.reach-tick-k.ensures.ends in
+pub overflow_sub-end-in-loop-j : goal.overflow_sub-end-in-loop-j
+overflow_sub-end-in-loop-j c =
+    let t = tick_turn c.args.cycle c.args.slots.now c.args.marks.now c.requires.ready c.loop-j.j c.reach_tick-k.result c.args.ticks c.loop-j-test.true c.reach_tick-k.ensures.there c.requires.some c.reach_tick-k.ensures.begun c.reach_tick-k.ensures.ends in
     omega (arith, t.0)
 
 pub loop-j-preserved : goal.loop-j-preserved
@@ -76,15 +76,15 @@ loop-j-preserved c =
     let ms = c.args.marks.now in
     let n = c.args.ticks in
     let j = c.loop-j.j in
-    let k = c.reach-tick-k.result in
+    let k = c.reach_tick-k.result in
     let h = c.loop-j-test.true in
     let e = end_of (get_or ss j (slot 0 0)) in
     let d : ℕ = place_of ms k + (before_of ms (j + 1) + n - before_of ms k) - (place_of ms j + (before_of ms (j + 1) - before_of ms j)) in
-    let t = tick_turn L ss ms c.requires.ready j k n h c.reach-tick-k.ensures.there c.requires.some c.reach-tick-k.ensures.begun c.reach-tick-k.ensures.ends in
+    let t = tick_turn L ss ms c.requires.ready j k n h c.reach_tick-k.ensures.there c.requires.some c.reach_tick-k.ensures.begun c.reach_tick-k.ensures.ends in
     let f : c.max-far.result ≡ max c.loop-j.far d = c.max-far.ensures in
     let g = count_grows (covered L ss) e d c.max-far.result (omega arith) in (
-      c.reach-tick-k.ensures.there,
-      c.reach-tick-k.ensures.begun,
+      c.reach_tick-k.ensures.there,
+      c.reach_tick-k.ensures.begun,
       ends_wider L ss n j c.loop-j.far c.max-far.result (slot 0 0) h (omega arith) (omega (arith, t.2)) c.loop-j.invariant.2,
       λ x q. let m = c.loop-j.invariant.3 x q in let b = least_below L c.requires.ready.some ss x e in let w = t.3 x (omega arith) in omega arith,
     )

@@ -8,8 +8,8 @@ use Rattle.slots.specs.OfPlan.{longest}
 use Rattle.slots.proofs.OfPlans.{plan_apart}
 use Rattle.slots.proofs.calls.block.Goals as goal
 
-pub invariant-of-frames : goal.invariant-of-frames
-invariant-of-frames c = (plan_apart c.args.plan.now c.args.class c.as-slice.result.now (c.as-slice.ensures ∙ c.in-ok-found.ensures.1), tt)
+pub invariant_of-frames : goal.invariant_of-frames
+invariant_of-frames c = (plan_apart c.args.plan.now c.args.class c.as_slice.result.now (c.as_slice.ensures ∙ c.in_ok-found.ensures.1), tt)
 
 pub returns : goal.returns
 unfolding sure block_of block
@@ -18,9 +18,9 @@ returns c =
     let L : ℕ = p.gates.cycle.0 in
     let o = opened (vec_items p.gates.lines) in
     let M : ℕ → ℕ = longest (contents p) in
-    let e = c.as-slice.ensures ∙ c.in-ok-found.ensures.1 in (
-      c.in-ok-found.ensures.0,
-      c.greatest-below.ensures ∙
-          greatest_same (λ k. cond (any (λ t. covered L c.as-slice.result.now t && o k t) L) (M k - 1) 0) (block_of L o M c.args.class) c.args.class
+    let e = c.as_slice.ensures ∙ c.in_ok-found.ensures.1 in (
+      c.in_ok-found.ensures.0,
+      c.greatest_below.ensures ∙
+          greatest_same (λ k. cond (any (λ t. covered L c.as_slice.result.now t && o k t) L) (M k - 1) 0) (block_of L o M c.args.class) c.args.class
           (λ k _. ap (λ ss. cond (any (λ t. covered L ss t && o k t) L) (M k - 1) 0) e),
     )

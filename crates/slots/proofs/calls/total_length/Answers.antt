@@ -8,8 +8,8 @@ use Rattle.slots.proofs.calls.total_length.Goals as goal
 pub loop-slot-init : goal.loop-slot-init
 loop-slot-init c = sym (lengths_none c.args.slots.now)
 
-pub overflow-add-sum : goal.overflow-add-sum
-overflow-add-sum c =
+pub overflow_add-sum : goal.overflow_add-sum
+overflow_add-sum c =
     let m = lengths_more c.args.slots.now c.loop-slot.slot-index (slot 0 0) c.loop-slot-test.true in
     let t = lengths_take_le c.args.slots.now (c.loop-slot.slot-index + 1) in
     omega (arith, c.loop-slot.invariant, c.requires)

@@ -8,14 +8,14 @@ use Rattle.slots.proofs.calls.write.Goals as goal
 pub loop-slot-init : goal.loop-slot-init
 loop-slot-init c = write_none c.args.slots.now c.args.list.now
 
-pub overflow-cast-list : goal.overflow-cast-list
-overflow-cast-list c = let s = All-get_or Small c.args.slots.now c.loop-slot.slot-index (slot 0 0) c.loop-slot-test.true c.requires.small in omega (arith, s.0)
+pub overflow_cast-list : goal.overflow_cast-list
+overflow_cast-list c = let s = All-get_or Small c.args.slots.now c.loop-slot.slot-index (slot 0 0) c.loop-slot-test.true c.requires.small in omega (arith, s.0)
 
 pub bounds-list-at : goal.bounds-list-at
 bounds-list-at c = omega (arith, c.requires.room, c.loop-slot.invariant.next, c.loop-slot.auto.list, c.loop-slot-test.true)
 
-pub overflow-cast-list-in-loop-slot : goal.overflow-cast-list-in-loop-slot
-overflow-cast-list-in-loop-slot c = let s = All-get_or Small c.args.slots.now c.loop-slot.slot-index (slot 0 0) c.loop-slot-test.true c.requires.small in omega (arith, s.1)
+pub overflow_cast-list-in-loop-slot : goal.overflow_cast-list-in-loop-slot
+overflow_cast-list-in-loop-slot c = let s = All-get_or Small c.args.slots.now c.loop-slot.slot-index (slot 0 0) c.loop-slot-test.true c.requires.small in omega (arith, s.1)
 
 pub bounds-list-at-in-loop-slot : goal.bounds-list-at-in-loop-slot
 bounds-list-at-in-loop-slot c = simp length-set (omega (arith, c.requires.room, c.loop-slot.invariant.next, c.loop-slot.auto.list, c.loop-slot-test.true))

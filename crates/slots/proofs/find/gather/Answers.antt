@@ -9,7 +9,7 @@ use Rattle.slots.specs.Listed.{items}
 use Rattle.slots.proofs.Walks.{law_of}
 use Rattle.slots.proofs.Gathers.{Gathered, gather_none, gather_all, gather_fits, gather_room, gather_more}
 use Rattle.slots.proofs.find.gather.Goals as goal
-use Rattle.slots.proofs.find.gather.Goals.{in-Some, in-default}
+use Rattle.slots.proofs.find.gather.Goals.{in-Some, in_default}
 
 -- the lines that the loop reads are the plan's
 same : (xs : List GateLine) (g h : GateList) → xs ≡ vec_items g.lines → g ≡ h → xs ≡ vec_items h.lines
@@ -18,8 +18,8 @@ same xs g h e f = e ∙ ap (λ (v : GateList). vec_items v.lines) f
 pub loop-line-init : goal.loop-line-init
 loop-line-init c = gather_none _ _ c.args.late (longest (contents c.args.plan.now)) c.args.class c.args.slots.now
 
-pub slot-at-requires : goal.slot-at-requires
-slot-at-requires c =
+pub slot_at-requires : goal.slot_at-requires
+slot_at-requires c =
     let e = same _ _ _ c.lines-lines.ensures c.gates.ensures in
     record { low = c.requires.low; place = record { there = omega (arith, ap length e, c.loop-line-test.true); begun = c.loop-line.invariant.begun } }
 
@@ -30,8 +30,8 @@ push-requires c =
     let r = gather_room _ _ c.args.late (longest (contents c.args.plan.now)) c.args.class c.args.slots.now (law_of c.args.plan.now.gates) c.loop-line.line c.loop-line.tick c.loop-line.slots lt c.loop-line.invariant c.requires.room in
     omega (arith, r, ap length c.in-Some.ensures)
 
-pub overflow-add-tick : goal.overflow-add-tick
-overflow-add-tick c =
+pub overflow_add-tick : goal.overflow_add-tick
+overflow_add-tick c =
     let e = same _ _ _ c.lines-lines.ensures c.gates.ensures in
     let lt : c.loop-line.line < length (vec_items c.args.plan.now.gates.lines) = omega (arith, ap length e, c.loop-line-test.true) in
     let f = gather_fits _ _ c.args.late (longest (contents c.args.plan.now)) c.args.class c.args.slots.now (law_of c.args.plan.now.gates) c.loop-line.line c.loop-line.tick c.loop-line.slots lt c.loop-line.invariant in
@@ -43,11 +43,11 @@ loop-line-preserved c =
     let e = same _ _ _ c.lines-lines.ensures c.gates.ensures in
     let lt : c.loop-line.line < length (vec_items c.args.plan.now.gates.lines) = omega (arith, ap length e, c.loop-line-test.true) in
     let n = ap (λ xs. c.loop-line.tick + (line xs c.loop-line.line).length.0) e in
-    subst (λ t. Gathered (vec_items c.args.plan.now.gates.lines) c.args.plan.now.gates.cycle.0 c.args.late (longest (contents c.args.plan.now)) c.args.class c.args.slots.now (c.loop-line.line + 1) t c.match-slot-at.slots) (sym n)
-    (gather_more _ _ c.args.late (longest (contents c.args.plan.now)) c.args.class c.args.slots.now (law_of c.args.plan.now.gates) c.loop-line.line c.loop-line.tick c.loop-line.slots lt c.loop-line.invariant c.match-slot-at.slots
-    (elim c.match-slot-at.branch [
+    subst (λ t. Gathered (vec_items c.args.plan.now.gates.lines) c.args.plan.now.gates.cycle.0 c.args.late (longest (contents c.args.plan.now)) c.args.class c.args.slots.now (c.loop-line.line + 1) t c.match-slot_at.slots) (sym n)
+    (gather_more _ _ c.args.late (longest (contents c.args.plan.now)) c.args.class c.args.slots.now (law_of c.args.plan.now.gates) c.loop-line.line c.loop-line.tick c.loop-line.slots lt c.loop-line.invariant c.match-slot_at.slots
+    (elim c.match-slot_at.branch [
       | in-Some w ↦ ap items w.slots-is ∙ w.push.ensures ∙ ap (λ v. items c.loop-line.slots ++ v) w.in-Some.ensures
-      | in-default w ↦ ap items w.slots-is ∙ sym (append-nil (items c.loop-line.slots)) ∙ ap (λ v. items c.loop-line.slots ++ v) w.in-default.ensures
+      | in_default w ↦ ap items w.slots-is ∙ sym (append-nil (items c.loop-line.slots)) ∙ ap (λ v. items c.loop-line.slots ++ v) w.in_default.ensures
     ]))
 
 pub returns : goal.returns

@@ -5,8 +5,8 @@ use Rattle.slots.specs.Walks.{passing}
 use Rattle.slots.proofs.Walks.{law_of, start_in, round_short, round_long}
 use Rattle.slots.proofs.walk.lasting.Goals as goal
 
-pub overflow-sub-cycle : goal.overflow-sub-cycle
-overflow-sub-cycle c = omega (arith, c.requires.begun, ap (λ n. n.0) c.cycle.ensures, start_in _ _ (law_of c.args.gates.now) c.args.from.line c.requires.there)
+pub overflow_sub-cycle : goal.overflow_sub-cycle
+overflow_sub-cycle c = omega (arith, c.requires.begun, ap (λ n. n.0) c.cycle.ensures, start_in _ _ (law_of c.args.gates.now) c.args.from.line c.requires.there)
 
 pub returns-then-first-cycle : goal.returns-then-first-cycle
 returns-then-first-cycle c =
@@ -23,8 +23,8 @@ both c =
     let long : c.args.gates.now.cycle.0 - c.args.from.tick ≤ c.walk-first.result = omega (arith, ap (λ n. n.0) c.cycle.ensures, c.if-first-cycle.false) in
     round_long _ _ (law_of c.args.gates.now) c.args.test c.args.class c.args.from.line c.args.from.tick c.walk-first.result _ c.requires.begun end c.walk-first.ensures long c.walk.result c.walk.ensures
 
-pub overflow-add-result : goal.overflow-add-result
-overflow-add-result c = omega (arith, (both c).1, c.args.gates.now.most)
+pub overflow_add-result : goal.overflow_add-result
+overflow_add-result c = omega (arith, (both c).1, c.args.gates.now.most)
 
 pub returns-else-first-cycle : goal.returns-else-first-cycle
 returns-else-first-cycle c = (both c).0

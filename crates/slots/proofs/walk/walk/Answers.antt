@@ -14,8 +14,8 @@ returns-then-not-passes c =
     walk_stop _ _ (law_of c.args.gates.now) c.args.test c.args.class c.args.from c.loop-i.i c.loop-i.ticks lt c.loop-i.invariant c.args.to c.loop-i-test.true
     (sym e ∙ sym c.if-not-passes.ensures)
 
-pub overflow-add-ticks : goal.overflow-add-ticks
-overflow-add-ticks c =
+pub overflow_add-ticks : goal.overflow_add-ticks
+overflow_add-ticks c =
     let lt : c.loop-i.i < length (vec_items c.args.gates.now.lines) = omega (arith, c.requires.there) in
     let e = ap (λ ls. (line ls c.loop-i.i).length.0) c.lines-lines.ensures in
     let f = walk_fits _ _ (law_of c.args.gates.now) c.args.test c.args.class c.args.from c.loop-i.i c.loop-i.ticks lt c.loop-i.invariant in

@@ -3,17 +3,17 @@ use Rattle.text.specs.Numerals.{digits_from}
 use Rattle.text.proofs.Digit.{digit_on, digit_low, digit_high, digit_end, ten_more, seven}
 use Rattle.text.proofs.numerals.digits.Goals as goal
 
-pub overflow-mul-n : goal.overflow-mul-n
-overflow-mul-n c = omega (arith, seven c.loop-b.n c.loop-b.b-index c.loop-b.invariant.1 (omega arith))
+pub overflow_mul-n : goal.overflow_mul-n
+overflow_mul-n c = omega (arith, seven c.loop-b.n c.loop-b.b-index c.loop-b.invariant.1 (omega arith))
 
-pub overflow-add-n : goal.overflow-add-n
-overflow-add-n c = omega (arith, seven c.loop-b.n c.loop-b.b-index c.loop-b.invariant.1 (omega arith))
+pub overflow_add-n : goal.overflow_add-n
+overflow_add-n c = omega (arith, seven c.loop-b.n c.loop-b.b-index c.loop-b.invariant.1 (omega arith))
 
-pub returns-in-default : goal.returns-in-default
-returns-in-default c = sym (digit_low c.loop-b.n c.args.text.now c.loop-b.b-index c.loop-b-test.true (omega arith)) ∙ c.loop-b.invariant.0
+pub returns-in_default : goal.returns-in_default
+returns-in_default c = sym (digit_low c.loop-b.n c.args.text.now c.loop-b.b-index c.loop-b-test.true (omega arith)) ∙ c.loop-b.invariant.0
 
-pub returns-in-default·2 : goal.returns-in-default·2
-returns-in-default·2 c = sym (digit_high c.loop-b.n c.args.text.now c.loop-b.b-index c.loop-b-test.true (omega arith)) ∙ c.loop-b.invariant.0
+pub returns-in_default-2 : goal.returns-in_default-2
+returns-in_default-2 c = sym (digit_high c.loop-b.n c.args.text.now c.loop-b.b-index c.loop-b-test.true (omega arith)) ∙ c.loop-b.invariant.0
 
 pub loop-b-preserved : goal.loop-b-preserved
 loop-b-preserved c = (

@@ -10,6 +10,6 @@ returns c =
     let b = c.args.self.now in
     let d = c.args.span.0 in
     answer_is flow_reach (bucket_bytes b.burst.0 b.num.0 b.den.0) d _
-    c.if-span-gt-FLOW-REACH.false
-    (bucket_small b.burst.0 b.num.0 b.den.0 d b.burst_most b.den_least b.num_most c.if-span-gt-FLOW-REACH.false)
+    c.if-span-gt-FLOW_REACH.false
+    (bucket_small b.burst.0 b.num.0 b.den.0 d b.burst_most b.den_least b.num_most c.if-span-gt-FLOW_REACH.false)
     (cond-false (eqb d 0) 0 _ (ne_eqb d 0 c.if-span-eq0.false))

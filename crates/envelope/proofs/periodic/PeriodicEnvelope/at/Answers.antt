@@ -10,6 +10,6 @@ returns c =
     let p = c.args.self.now in
     let d = c.args.span.0 in
     answer_is flow_reach (periodic_bytes p.bytes.0 p.period.0 p.jitter.0) d _
-    c.if-span-gt-FLOW-REACH.false
-    (periodic_small p.bytes.0 p.period.0 p.jitter.0 d p.bytes_most p.jitter_most p.period_least p.period_most c.if-span-gt-FLOW-REACH.false)
+    c.if-span-gt-FLOW_REACH.false
+    (periodic_small p.bytes.0 p.period.0 p.jitter.0 d p.bytes_most p.jitter_most p.period_least p.period_most c.if-span-gt-FLOW_REACH.false)
     (cond-false (eqb d 0) 0 _ (ne_eqb d 0 c.if-span-eq0.false))

@@ -3,7 +3,7 @@ use Rattle.gates.specs.Opened.{shut_line}
 use Rattle.gates.proofs.Lines.{only_shut}
 use Rattle.gates.proofs.gate_list.GateList.shut.Goals as goal
 
-pub invariant-of-result : goal.invariant-of-result
-invariant-of-result c =
-    let law = only_shut _ (c.in-ok-push.ensures.items ∙ ap (λ xs. xs ++ shut_line ∷ []) c.new-lines.ensures.items) in
+pub invariant_of-result : goal.invariant_of-result
+invariant_of-result c =
+    let law = only_shut _ (c.in_ok-push.ensures.items ∙ ap (λ xs. xs ++ shut_line ∷ []) c.new-lines.ensures.items) in
     (law.each, (law.together, (law.some, (law.few, (law.most, tt)))))

@@ -3,5 +3,5 @@ use Rattle.plan.proofs.plan.Plan.new.Goals as goal
 
 pub returns : goal.returns
 returns c =
-    let gates = c.in-ok-gates.ensures in
-    shut_contents_lem _ _ c.silent.result _ gates.0 gates.1 c.silent.ensures.0 c.silent.ensures.1 c.in-ok-flows.ensures.1
+    let gates = c.in_ok-gates.ensures in
+    shut_contents_lem _ _ c.silent.result _ gates.0 gates.1 c.silent.ensures.0 c.silent.ensures.1 c.in_ok-flows.ensures.1

@@ -3,10 +3,10 @@ use Rattle.std.proofs.lemmas.Result.{err_from_is_err_and}
 use Rattle.plan.proofs.Outcomes.{read_outcome, read_written, read_accepted, only_memory}
 use Rattle.plan.proofs.plan.Plan.read.Goals as goal
 
-pub returns-in-err-parsed : goal.returns-in-err-parsed
-returns-in-err-parsed c =
-    let p = err_from_is_err_and c.from-residual.result c.from-residual.ensures.1 in
-    let why = c.in-err-parsed.ensures in
+pub returns-in_err-parsed : goal.returns-in_err-parsed
+returns-in_err-parsed c =
+    let p = err_from_is_err_and c.from_residual.result c.from_residual.ensures.1 in
+    let why = c.in_err-parsed.ensures in
     record {
       outcome = rw (p.1, p.2) (refl, why);
       written = rw p.1 tt;
@@ -15,6 +15,6 @@ returns-in-err-parsed c =
 
 pub returns : goal.returns
 returns c =
-    let said = c.in-ok-parsed.ensures in
-    let is = c.in-ok-self.ensures in
+    let said = c.in_ok-parsed.ensures in
+    let is = c.in_ok-self.ensures in
     record { outcome = read_outcome _ _ _ said is; written = read_written _ _ _ said is; accepted = read_accepted _ _ _ said is }

@@ -9,14 +9,14 @@ use Rattle.reader.proofs.reader.Reader.class_list.Goals as goal
 pub loop-i-init : goal.loop-i-init
 loop-i-init c = (refl, refl, omega arith, refl)
 
-pub class-line-requires : goal.class-line-requires
-class-line-requires c = omega (arith, c.loop-i.invariant.2, c.requires, c.loop-i-test.true)
+pub class_line-requires : goal.class_line-requires
+class_line-requires c = omega (arith, c.loop-i.invariant.2, c.requires, c.loop-i-test.true)
 
-pub returns-in-err-class : goal.returns-in-err-class
+pub returns-in_err-class : goal.returns-in_err-class
 unfolding classes_listed
-returns-in-err-class c =
-    let p = err_from_is_err_and c.from-residual.result c.from-residual.ensures.1 in
-    let h = c.in-err-class.ensures in
+returns-in_err-class c =
+    let p = err_from_is_err_and c.from_residual.result c.from_residual.ensures.1 in
+    let h = c.in_err-class.ensures in
     let n = sizes_length c.loop-i.classes c.loop-i.i c.loop-i.invariant.3 (omega arith) in
     record {
       value = rw (p.1, p.2) (sym (each_fault next_class 8 c.loop-i.i _ _ _ _ c.loop-i-test.true (class_stop _ c.loop-i.i _ _ n _ h.value)) ∙ c.loop-i.invariant.0);
@@ -26,8 +26,8 @@ returns-in-err-class c =
 
 pub loop-i-preserved : goal.loop-i-preserved
 loop-i-preserved c =
-    let h = c.in-ok-class.ensures in
-    let t = c.in-ok-class.class in
+    let h = c.in_ok-class.ensures in
+    let t = c.in_ok-class.class in
     let n = sizes_length c.loop-i.classes c.loop-i.i c.loop-i.invariant.3 (omega arith) in
     let more = sizes_put c.loop-i.classes c.loop-i.i t c.loop-i.invariant.3 c.loop-i-test.true in
     let on = each_more next_class 8 c.loop-i.i c.loop-i.self.line c.loop-i.self.rest.now _ (sizes_of t ∷ map sizes_of (drop (8 - c.loop-i.i) c.loop-i.classes)) c.loop-i-test.true (class_next _ c.loop-i.i _ _ n (sizes_of t) h.value) in

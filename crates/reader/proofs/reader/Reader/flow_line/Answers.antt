@@ -7,34 +7,34 @@ use Rattle.reader.proofs.reader.Reader.flow_line.Goals as goal
 use Rattle.reader.proofs.reader.Reader.flow_line.Goals.{After-largest-largest}
 
 -- the largest frame of the line's class
-largest_is : (c : After-largest-largest) → c.largest-largest.result.0 ≡ largest_of (map sizes_of c.args.classes.now) c.in-ok-class.class
+largest_is : (c : After-largest-largest) → c.largest-largest.result.0 ≡ largest_of (map sizes_of c.args.classes.now) c.in_ok-class.class
 largest_is c =
-    let at = largest_at c.args.classes.now c.in-ok-class.class c.index-classes-class.result (search rules) c.index-classes-class.is in
+    let at = largest_at c.args.classes.now c.in_ok-class.class c.index-classes-class.result (search rules) c.index-classes-class.is in
     search rules
 
-pub returns-in-err-rest : goal.returns-in-err-rest
+pub returns-in_err-rest : goal.returns-in_err-rest
 unfolding flow_line
-returns-in-err-rest c = search rules
+returns-in_err-rest c = search rules
 
-pub returns-in-err-class : goal.returns-in-err-class
+pub returns-in_err-class : goal.returns-in_err-class
 unfolding flow_line
-returns-in-err-class c = search rules
+returns-in_err-class c = search rules
 
 pub returns-then-not-admits : goal.returns-then-not-admits
 unfolding flow_line
 returns-then-not-admits c = let big = largest_is (goal.at.returns-then-not-admits c).After-largest-largest in search rules
 
-pub returns-in-err-kind : goal.returns-in-err-kind
+pub returns-in_err-kind : goal.returns-in_err-kind
 unfolding flow_line
-returns-in-err-kind c = let big = largest_is (goal.at.returns-in-err-kind c).After-largest-largest in search rules
+returns-in_err-kind c = let big = largest_is (goal.at.returns-in_err-kind c).After-largest-largest in search rules
 
 pub returns-then-not-precedes : goal.returns-then-not-precedes
 unfolding flow_line
 returns-then-not-precedes c = let big = largest_is (goal.at.returns-then-not-precedes c).After-largest-largest in search rules
 
-pub returns-in-err-flow : goal.returns-in-err-flow
+pub returns-in_err-flow : goal.returns-in_err-flow
 unfolding flow_line
-returns-in-err-flow c = let big = largest_is (goal.at.returns-in-err-flow c).After-largest-largest in search rules
+returns-in_err-flow c = let big = largest_is (goal.at.returns-in_err-flow c).After-largest-largest in search rules
 
 pub returns : goal.returns
 unfolding flow_line

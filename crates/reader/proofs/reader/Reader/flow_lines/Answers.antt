@@ -16,13 +16,13 @@ loop-i-init c = (
   c.requires.room,
 )
 
-pub flow-line-requires : goal.flow-line-requires
-flow-line-requires c = omega (arith, c.loop-i.invariant.2, c.requires.line, c.requires.few, c.loop-i-test.true)
+pub flow_line-requires : goal.flow_line-requires
+flow_line-requires c = omega (arith, c.loop-i.invariant.2, c.requires.line, c.requires.few, c.loop-i-test.true)
 
-pub returns-in-err-flow : goal.returns-in-err-flow
-returns-in-err-flow c =
-    let p = err_from_is_err_and c.from-residual.result c.from-residual.ensures.1 in
-    let h = c.in-err-flow.ensures in
+pub returns-in_err-flow : goal.returns-in_err-flow
+returns-in_err-flow c =
+    let p = err_from_is_err_and c.from_residual.result c.from_residual.ensures.1 in
+    let h = c.in_err-flow.ensures in
     let cs = map sizes_of c.args.classes.now in
     record {
       value = rw (p.1, p.2) (sym (each_fault (next_flow cs) c.args.count c.loop-i.i _ _ _ _ c.loop-i-test.true (flow_stop cs (entries_of c.loop-i.flows) _ _ _ c.loop-i.invariant.3 _ h.value)) ∙ c.loop-i.invariant.0);
@@ -30,23 +30,23 @@ returns-in-err-flow c =
       line = rw p.1 tt;
     }
 
-pub push-reserved-requires : goal.push-reserved-requires
-push-reserved-requires c = omega (arith, c.loop-i.invariant.4, c.loop-i.invariant.5, c.requires.few, c.loop-i-test.true)
+pub push_reserved-requires : goal.push_reserved-requires
+push_reserved-requires c = omega (arith, c.loop-i.invariant.4, c.loop-i.invariant.5, c.requires.few, c.loop-i-test.true)
 
 pub loop-i-preserved : goal.loop-i-preserved
 loop-i-preserved c =
-    let h = c.in-ok-flow.ensures in
-    let f = c.in-ok-flow.flow in
+    let h = c.in_ok-flow.ensures in
+    let f = c.in_ok-flow.flow in
     let cs = map sizes_of c.args.classes.now in
-    let more = entries_push (vec_items c.loop-i.flows) _ f c.push-reserved.ensures.items in
+    let more = entries_push (vec_items c.loop-i.flows) _ f c.push_reserved.ensures.items in
     let on = each_more (next_flow cs) c.args.count c.loop-i.i c.loop-i.self.line c.loop-i.self.rest.now (entries_of c.loop-i.flows) _ c.loop-i-test.true (flow_next cs _ c.loop-i.last _ _ c.loop-i.invariant.3 (entry_of f) h.value) in
     let past = skip_more c.args.count c.loop-i.i c.loop-i.self.rest.now c.loop-i-test.true in (
       rw (h.line, h.rest, more) (sym on ∙ c.loop-i.invariant.0),
       rw h.rest (sym past ∙ c.loop-i.invariant.1),
       omega (arith, h.line, c.loop-i.invariant.2),
       c.place-last.ensures ∙ sym (place_last first (entries_of c.loop-i.flows) (entry_of f)) ∙ ap (place_after first) (sym more),
-      omega (arith, c.push-reserved.ensures.len, c.loop-i.invariant.4),
-      omega (arith, c.push-reserved.ensures.capacity, c.loop-i.invariant.5),
+      omega (arith, c.push_reserved.ensures.len, c.loop-i.invariant.4),
+      omega (arith, c.push_reserved.ensures.capacity, c.loop-i.invariant.5),
     )
 
 pub returns : goal.returns

@@ -2,13 +2,13 @@ use Rattle.std.proofs.Common.{rules}
 use Rattle.reader.specs.Entries.{gate_line}
 use Rattle.reader.proofs.reader.Reader.gate_line.Goals as goal
 
-pub returns-in-err-rest : goal.returns-in-err-rest
+pub returns-in_err-rest : goal.returns-in_err-rest
 unfolding gate_line
-returns-in-err-rest c = search rules
+returns-in_err-rest c = search rules
 
-pub returns-in-err-gate : goal.returns-in-err-gate
+pub returns-in_err-gate : goal.returns-in_err-gate
 unfolding gate_line
-returns-in-err-gate c = search rules
+returns-in_err-gate c = search rules
 
 pub returns : goal.returns
 unfolding gate_line

@@ -17,13 +17,13 @@ loop-i-init c = (
   c.requires.room,
 )
 
-pub gate-line-requires : goal.gate-line-requires
-gate-line-requires c = omega (arith, c.loop-i.invariant.2, c.requires.line, c.requires.few, c.loop-i-test.true)
+pub gate_line-requires : goal.gate_line-requires
+gate_line-requires c = omega (arith, c.loop-i.invariant.2, c.requires.line, c.requires.few, c.loop-i-test.true)
 
-pub returns-in-err-gate : goal.returns-in-err-gate
-returns-in-err-gate c =
-    let p = err_from_is_err_and c.from-residual.result c.from-residual.ensures.1 in
-    let h = c.in-err-gate.ensures in
+pub returns-in_err-gate : goal.returns-in_err-gate
+returns-in_err-gate c =
+    let p = err_from_is_err_and c.from_residual.result c.from_residual.ensures.1 in
+    let h = c.in_err-gate.ensures in
     record {
       value = rw (p.1, p.2) (sym (each_fault next_gate c.args.count c.loop-i.i _ _ _ _ c.loop-i-test.true (gate_stop _ _ _ _ h.value)) ∙ c.loop-i.invariant.0);
       bound = rw p.1 tt;
@@ -31,22 +31,22 @@ returns-in-err-gate c =
       line = rw p.1 tt;
     }
 
-pub push-reserved-requires : goal.push-reserved-requires
-push-reserved-requires c = omega (arith, c.loop-i.invariant.4, c.loop-i.invariant.5, c.requires.few, c.loop-i-test.true)
+pub push_reserved-requires : goal.push_reserved-requires
+push_reserved-requires c = omega (arith, c.loop-i.invariant.4, c.loop-i.invariant.5, c.requires.few, c.loop-i-test.true)
 
 pub loop-i-preserved : goal.loop-i-preserved
 loop-i-preserved c =
-    let h = c.in-ok-gate.ensures in
-    let g = c.in-ok-gate.gate in
-    let more = c.push-reserved.ensures.items in
+    let h = c.in_ok-gate.ensures in
+    let g = c.in_ok-gate.gate in
+    let more = c.push_reserved.ensures.items in
     let on = each_more next_gate c.args.count c.loop-i.i c.loop-i.self.line c.loop-i.self.rest.now (vec_items c.loop-i.lines) _ c.loop-i-test.true (gate_next _ _ _ g h.value) in
     let past = skip_more c.args.count c.loop-i.i c.loop-i.self.rest.now c.loop-i-test.true in (
       rw (h.line, h.rest, more) (sym on ∙ c.loop-i.invariant.0),
       rw h.rest (sym past ∙ c.loop-i.invariant.1),
       omega (arith, h.line, c.loop-i.invariant.2),
       subst (All LengthFits) (sym more) (All-push LengthFits _ _ c.loop-i.invariant.3 h.bound),
-      omega (arith, c.push-reserved.ensures.len, c.loop-i.invariant.4),
-      omega (arith, c.push-reserved.ensures.capacity, c.loop-i.invariant.5),
+      omega (arith, c.push_reserved.ensures.len, c.loop-i.invariant.4),
+      omega (arith, c.push_reserved.ensures.capacity, c.loop-i.invariant.5),
     )
 
 pub returns : goal.returns

@@ -4,16 +4,16 @@ use Rattle.reader.specs.Reading.{gates_listed}
 use Rattle.reader.proofs.Steps.{listed_is, listed_cycle, made_any}
 use Rattle.reader.proofs.reader.Reader.gate_list.Goals as goal
 
-pub returns-in-err-lines : goal.returns-in-err-lines
+pub returns-in_err-lines : goal.returns-in_err-lines
 unfolding gates_listed
-returns-in-err-lines c = search rules
+returns-in_err-lines c = search rules
 
 pub returns : goal.returns
 unfolding gates_listed
 returns c =
-    let h = c.in-ok-lines.ensures in
-    let last : c.gate-lines.new.self.line - 1 ≡ 3 + c.args.header.gates = omega (arith, h.line, c.requires.line) in
-    let is = listed_is c.args.header.cycle c.args.header.gates (vec_items c.in-ok-lines.lines) c.new.result h.bound.0 (omega (arith, h.bound.1, c.in-ok-lines.lines.ok.0)) c.requires.some c.requires.few c.requires.most c.new.ensures in
-    let of = listed_cycle c.args.header.cycle (vec_items c.in-ok-lines.lines) c.new.result (Sum (c.gate-lines.new.self.line - 1)) c.new.ensures in
-    let next : c.gate-lines.new.self.line ≡ 4 + c.args.header.gates = omega (arith, h.line, c.requires.line) in
+    let h = c.in_ok-lines.ensures in
+    let last : c.gate_lines.new.self.line - 1 ≡ 3 + c.args.header.gates = omega (arith, h.line, c.requires.line) in
+    let is = listed_is c.args.header.cycle c.args.header.gates (vec_items c.in_ok-lines.lines) c.new.result h.bound.0 (omega (arith, h.bound.1, c.in_ok-lines.lines.ok.0)) c.requires.some c.requires.few c.requires.most c.new.ensures in
+    let of = listed_cycle c.args.header.cycle (vec_items c.in_ok-lines.lines) c.new.result (Sum (c.gate_lines.new.self.line - 1)) c.new.ensures in
+    let next : c.gate_lines.new.self.line ≡ 4 + c.args.header.gates = omega (arith, h.line, c.requires.line) in
     record { value = search rules; cycle = search rules; rest = made_any _ _ h.rest; line = made_any _ _ next }

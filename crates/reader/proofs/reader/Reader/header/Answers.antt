@@ -3,17 +3,17 @@ use Rattle.reader.specs.Chain.{skip}
 use Rattle.reader.specs.Reading.{header_in}
 use Rattle.reader.proofs.reader.Reader.header.Goals as goal
 
-pub returns-in-err-port : goal.returns-in-err-port
+pub returns-in_err-port : goal.returns-in_err-port
 unfolding header_in
-returns-in-err-port c = search rules
+returns-in_err-port c = search rules
 
-pub returns-in-err-cycle : goal.returns-in-err-cycle
+pub returns-in_err-cycle : goal.returns-in_err-cycle
 unfolding header_in
-returns-in-err-cycle c = search rules
+returns-in_err-cycle c = search rules
 
-pub returns-in-err-gates : goal.returns-in-err-gates
+pub returns-in_err-gates : goal.returns-in_err-gates
 unfolding header_in
-returns-in-err-gates c = search rules
+returns-in_err-gates c = search rules
 
 pub returns : goal.returns
 unfolding header_in skip

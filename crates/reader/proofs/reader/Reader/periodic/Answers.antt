@@ -5,31 +5,31 @@ use Rattle.reader.specs.Fields.{ranged, number_field, periodic_in}
 use Rattle.reader.proofs.Checked.{in_range, jitter_high}
 use Rattle.reader.proofs.reader.Reader.periodic.Goals as goal
 
-pub returns-in-err-bytes : goal.returns-in-err-bytes
+pub returns-in_err-bytes : goal.returns-in_err-bytes
 unfolding periodic_in
-returns-in-err-bytes c = search rules
+returns-in_err-bytes c = search rules
 
-pub returns-in-err-period : goal.returns-in-err-period
+pub returns-in_err-period : goal.returns-in_err-period
 unfolding periodic_in
-returns-in-err-period c = search rules
+returns-in_err-period c = search rules
 
-pub returns-in-err-jitter : goal.returns-in-err-jitter
+pub returns-in_err-jitter : goal.returns-in_err-jitter
 unfolding periodic_in number_field
-returns-in-err-jitter c = search rules
+returns-in_err-jitter c = search rules
 
 pub returns-in-Ok : goal.returns-in-Ok
 unfolding periodic_in number_field
 returns-in-Ok c =
     let is = c.in-Ok.ensures in
-    let j : c.in-Ok.periodic.jitter.0 ≡ c.in-ok-jitter.jitter = ap (λ x. x.0) is.2 in
-    let low : Ok c.in-ok-jitter.jitter ≡ ranged c.args.self.now.line 0 most_jitter c.in-ok-jitter.jitter = in_range _ _ _ _ (omega arith) (omega (arith, c.in-Ok.periodic.jitter_most)) in
+    let j : c.in-Ok.periodic.jitter.0 ≡ c.in_ok-jitter.jitter = ap (λ x. x.0) is.2 in
+    let low : Ok c.in_ok-jitter.jitter ≡ ranged c.args.self.now.line 0 most_jitter c.in_ok-jitter.jitter = in_range _ _ _ _ (omega arith) (omega (arith, c.in-Ok.periodic.jitter_most)) in
     search rules
 
 pub returns-in-Err : goal.returns-in-Err
 unfolding periodic_in number_field
 returns-in-Err c =
-    let bytes = c.in-ok-bytes.ensures.bound in
-    let period = c.in-ok-period.ensures.bound in
-    let high : Err (Range c.args.self.now.line) ≡ ranged c.args.self.now.line 0 most_jitter c.in-ok-jitter.jitter =
-    jitter_high _ c.in-ok-bytes.bytes c.in-ok-period.period _ bytes.0 (omega (arith, bytes.1, c.requires)) period.0 period.1 c.in-Err.ensures.1 in
+    let bytes = c.in_ok-bytes.ensures.bound in
+    let period = c.in_ok-period.ensures.bound in
+    let high : Err (Range c.args.self.now.line) ≡ ranged c.args.self.now.line 0 most_jitter c.in_ok-jitter.jitter =
+    jitter_high _ c.in_ok-bytes.bytes c.in_ok-period.period _ bytes.0 (omega (arith, bytes.1, c.requires)) period.0 period.1 c.in-Err.ensures.1 in
     search rules

@@ -3,17 +3,17 @@ use Rattle.reader.specs.Fields.{number_field, sizes_in}
 use Rattle.reader.proofs.Checked.{sized_is}
 use Rattle.reader.proofs.reader.Reader.sizes.Goals as goal
 
-pub returns-in-err-largest : goal.returns-in-err-largest
+pub returns-in_err-largest : goal.returns-in_err-largest
 unfolding sizes_in
-returns-in-err-largest c = search rules
+returns-in_err-largest c = search rules
 
-pub returns-in-err-depth : goal.returns-in-err-depth
+pub returns-in_err-depth : goal.returns-in_err-depth
 unfolding sizes_in number_field
-returns-in-err-depth c = search rules
+returns-in_err-depth c = search rules
 
 pub returns : goal.returns
 unfolding sizes_in number_field
 returns c =
-    let bound = c.in-ok-largest.ensures.bound in
-    let is = sized_is c.args.self.now.line c.in-ok-largest.largest c.in-ok-depth.depth c.new.result bound.0 bound.1 c.new.ensures in
+    let bound = c.in_ok-largest.ensures.bound in
+    let is = sized_is c.args.self.now.line c.in_ok-largest.largest c.in_ok-depth.depth c.new.result bound.0 bound.1 c.new.ensures in
     search rules

@@ -18,31 +18,31 @@ use Rattle.service.proofs.class_service.ClassService.of.Goals as goal
 same_cycle : (n : ℕ) (g h : GateList) → n ≡ g.cycle.0 → g ≡ h → n ≡ h.cycle.0
 same_cycle n g h e f = e ∙ ap (λ (v : GateList). v.cycle.0) f
 
-pub set-table-requires : goal.set-table-requires
-set-table-requires c =
+pub set_table-requires : goal.set_table-requires
+set_table-requires c =
     let p = c.args.plan.now in
     let n = same_cycle c.cycle-cycle.result.0 _ _ (ap (λ t. t.0) c.cycle-cycle.ensures) c.gates.ensures in
-    let e = c.as-slice.ensures ∙ c.in-ok-slots.ensures.1 in
-    let s = c.in-ok-slots.slots in
+    let e = c.as_slice.ensures ∙ c.in_ok-slots.ensures.1 in
+    let s = c.in_ok-slots.slots in
     record {
-      apart = subst (λ v. Apart v c.as-slice.result.now) (sym n) (plan_apart p c.args.class c.as-slice.result.now e);
+      apart = subst (λ v. Apart v c.as_slice.result.now) (sym n) (plan_apart p c.args.class c.as_slice.result.now e);
       short = omega (arith, n, p.gates.most);
-      whole = c.in-ok-sure-ticks.ensures.1 ∙ sym (plan_sure p c.args.class c.as-slice.result.now e);
-      room = omega (arith, ap length c.as-slice.ensures, counted s, s.few);
+      whole = c.in_ok-sure_ticks.ensures.1 ∙ sym (plan_sure p c.args.class c.as_slice.result.now e);
+      room = omega (arith, ap length c.as_slice.ensures, counted s, s.few);
     }
 
-pub invariant-of-result : goal.invariant-of-result
-invariant-of-result c =
+pub invariant_of-result : goal.invariant_of-result
+invariant_of-result c =
     let p = c.args.plan.now in
     let n = same_cycle c.cycle-cycle.result.0 _ _ (ap (λ t. t.0) c.cycle-cycle.ensures) c.gates.ensures in
-    let s = c.in-ok-slots.slots in
-    let e = c.in-ok-slots.ensures.1 in
+    let s = c.in_ok-slots.slots in
+    let e = c.in_ok-slots.ensures.1 in
     let some = cycle_some _ _ (law_of p.gates) in
     let b = plan_block p c.args.class in
-    let table = subst (λ xs. take (2 * length xs + 1) c.set-table.new.marks ≡ table_of c.cycle-cycle.result.0 xs) c.as-slice.ensures c.set-table.ensures in
+    let table = subst (λ xs. take (2 * length xs + 1) c.set_table.new.marks ≡ table_of c.cycle-cycle.result.0 xs) c.as_slice.ensures c.set_table.ensures in
     let apart = subst (λ v. Apart v (items s)) (sym n) (plan_apart p c.args.class (items s) e) in
-    let whole = c.in-ok-sure-ticks.ensures.1 ∙ sym (plan_sure p c.args.class (items s) e) in
-    (omega arith, (omega (arith, p.gates.most), (apart, (whole, (omega (arith, c.in-ok-blocking.ensures.1), (c.set-table.auto.marks, (table, tt)))))))
+    let whole = c.in_ok-sure_ticks.ensures.1 ∙ sym (plan_sure p c.args.class (items s) e) in
+    (omega arith, (omega (arith, p.gates.most), (apart, (whole, (omega (arith, c.in_ok-blocking.ensures.1), (c.set_table.auto.marks, (table, tt)))))))
 
 pub returns : goal.returns
 unfolding curve
@@ -52,13 +52,13 @@ returns c =
     let o = opened (vec_items p.gates.lines) in
     let M : ℕ → ℕ = longest (contents p) in
     let k = c.args.class in
-    let s = c.in-ok-slots.slots in
-    let b = c.in-ok-blocking.blocking.0 in
+    let s = c.in_ok-slots.slots in
+    let b = c.in_ok-blocking.blocking.0 in
     let n = same_cycle c.cycle-cycle.result.0 _ _ (ap (λ t. t.0) c.cycle-cycle.ensures) c.gates.ensures in (
-      c.in-ok-slots.ensures.0,
+      c.in_ok-slots.ensures.0,
       λ d.
           ap (λ v. least_covered v (items s) d - b) n
-          ∙ ap (λ ss. least_covered L ss d - b) c.in-ok-slots.ensures.1
-          ∙ ap (λ v. least_covered L (slots_of (contents p) k) d - v) c.in-ok-blocking.ensures.1
+          ∙ ap (λ ss. least_covered L ss d - b) c.in_ok-slots.ensures.1
+          ∙ ap (λ v. least_covered L (slots_of (contents p) k) d - v) c.in_ok-blocking.ensures.1
           ∙ ap (λ v. v - block L o M k) (sym (sure_least L o M k d)),
     )

@@ -19,27 +19,27 @@ split : (s : ClassService) (y f : ℕ) → (s.sure.0 ≡ 0 → ⊥) → (y ≡ 0
     FirstSpan s.cycle.0 (items s.slots) (y + s.block.0) ((y + s.block.0 - 1) / s.sure.0 * s.cycle.0 + f) × ((y + s.block.0 - 1) / s.sure.0 ≤ y + s.block.0) × (f ≤ s.cycle.0)
 split s y f sure-some some h = first_split s.cycle.0 s.some (items s.slots) s.apart (y + s.block.0) s.sure.0 f s.whole (omega arith) (omega arith) h
 
-pub overflow-add-span : goal.overflow-add-span
-overflow-add-span c =
+pub overflow_add-span : goal.overflow_add-span
+overflow_add-span c =
     let s = c.args.self.now in
     let q : ℕ = (c.args.bytes.0 + s.block.0 - 1) / s.sure.0 in
-    let h = split s c.args.bytes.0 c.first-with-first.result c.if-self-eq0.false c.if-bytes-eq0.false
-    (subst (λ xs. FirstSpan s.cycle.0 xs (c.args.bytes.0 + s.block.0 - q * s.sure.0) c.first-with-first.result) c.as-slice.ensures c.first-with-first.ensures) in
+    let h = split s c.args.bytes.0 c.first_with-first.result c.if-self-eq0.false c.if-bytes-eq0.false
+    (subst (λ xs. FirstSpan s.cycle.0 xs (c.args.bytes.0 + s.block.0 - q * s.sure.0) c.first_with-first.result) c.as_slice.ensures c.first_with-first.ensures) in
     let m : q * s.cycle.0 ≤ q * most_cycle = mul-le-mul_left q s.short in
-    omega (arith, h.1, h.2, s.low, s.short, c.if-bytes-gt-MAX-SPAN.false)
+    omega (arith, h.1, h.2, s.low, s.short, c.if-bytes-gt-MAX_SPAN.false)
 
-pub returns-then-span-gt-MAX-SPAN : goal.returns-then-span-gt-MAX-SPAN
-returns-then-span-gt-MAX-SPAN c =
+pub returns-then-span-gt-MAX_SPAN : goal.returns-then-span-gt-MAX_SPAN
+returns-then-span-gt-MAX_SPAN c =
     let s = c.args.self.now in
     let q : ℕ = (c.args.bytes.0 + s.block.0 - 1) / s.sure.0 in
-    let h = split s c.args.bytes.0 c.first-with-first.result c.if-self-eq0.false c.if-bytes-eq0.false
-    (subst (λ xs. FirstSpan s.cycle.0 xs (c.args.bytes.0 + s.block.0 - q * s.sure.0) c.first-with-first.result) c.as-slice.ensures c.first-with-first.ensures) in
-    span_none s.cycle.0 s.some (items s.slots) s.apart s.block.0 c.args.bytes.0 (q * s.cycle.0 + c.first-with-first.result) (omega (arith, c.if-bytes-eq0.false)) h.0 c.if-span-gt-MAX-SPAN.true
+    let h = split s c.args.bytes.0 c.first_with-first.result c.if-self-eq0.false c.if-bytes-eq0.false
+    (subst (λ xs. FirstSpan s.cycle.0 xs (c.args.bytes.0 + s.block.0 - q * s.sure.0) c.first_with-first.result) c.as_slice.ensures c.first_with-first.ensures) in
+    span_none s.cycle.0 s.some (items s.slots) s.apart s.block.0 c.args.bytes.0 (q * s.cycle.0 + c.first_with-first.result) (omega (arith, c.if-bytes-eq0.false)) h.0 c.if-span-gt-MAX_SPAN.true
 
 pub returns : goal.returns
 returns c =
     let s = c.args.self.now in
     let q : ℕ = (c.args.bytes.0 + s.block.0 - 1) / s.sure.0 in
-    let h = split s c.args.bytes.0 c.first-with-first.result c.if-self-eq0.false c.if-bytes-eq0.false
-    (subst (λ xs. FirstSpan s.cycle.0 xs (c.args.bytes.0 + s.block.0 - q * s.sure.0) c.first-with-first.result) c.as-slice.ensures c.first-with-first.ensures) in
-    span_is s.cycle.0 s.some (items s.slots) s.apart s.block.0 c.args.bytes.0 (q * s.cycle.0 + c.first-with-first.result) (omega (arith, c.if-bytes-eq0.false)) h.0 c.if-span-gt-MAX-SPAN.false
+    let h = split s c.args.bytes.0 c.first_with-first.result c.if-self-eq0.false c.if-bytes-eq0.false
+    (subst (λ xs. FirstSpan s.cycle.0 xs (c.args.bytes.0 + s.block.0 - q * s.sure.0) c.first_with-first.result) c.as_slice.ensures c.first_with-first.ensures) in
+    span_is s.cycle.0 s.some (items s.slots) s.apart s.block.0 c.args.bytes.0 (q * s.cycle.0 + c.first_with-first.result) (omega (arith, c.if-bytes-eq0.false)) h.0 c.if-span-gt-MAX_SPAN.false
