@@ -10,7 +10,7 @@ use units::{Bytes, Ticks};
 // The bytes that may arrive in the span. None where they are more than 2^40.
 fn arriving<E: Envelope>(envelope: &E, span: u64) -> Option<u64>
     requires { span ≤ most_span }
-    ensures { MatchOption result (most_load < alpha envelope.now span) (λ b. (b ≡ alpha envelope.now span) × (b ≤ most_load)) }
+    ensures { MatchOption result (most_load < E.alpha envelope.now span) (λ b. (b ≡ E.alpha envelope.now span) × (b ≤ most_load)) }
 {
     match envelope.at(Ticks(span)) {
         Ok(Load::Is(bytes)) => Some(bytes.0),
@@ -22,7 +22,7 @@ fn arriving<E: Envelope>(envelope: &E, span: u64) -> Option<u64>
 fn exceeds<E: Envelope>(envelope: &E, span: u64, bytes: u64) -> bool
     requires short { span ≤ most_span }
     requires told { bytes ≤ most_load }
-    ensures { Decides result (bytes < alpha envelope.now span) }
+    ensures { Decides result (bytes < E.alpha envelope.now span) }
 {
     match arriving(envelope, span) {
         Some(most) => bytes < most,
@@ -34,13 +34,13 @@ fn exceeds<E: Envelope>(envelope: &E, span: u64, bytes: u64) -> bool
 fn next_rise<E: Envelope>(envelope: &E, from: u64, to: u64, bytes: u64) -> u64
     requires short { to ≤ most_span }
     requires told { bytes ≤ most_load }
-    requires flat { alpha envelope.now from ≤ bytes }
-    requires risen { bytes < alpha envelope.now to }
+    requires flat { E.alpha envelope.now from ≤ bytes }
+    requires risen { bytes < E.alpha envelope.now to }
     requires onward { from < to }
     ensures after { from < result }
     ensures within { result ≤ to }
-    ensures flat { alpha envelope.now (result - 1) ≤ bytes }
-    ensures risen { bytes < alpha envelope.now result }
+    ensures flat { E.alpha envelope.now (result - 1) ≤ bytes }
+    ensures risen { bytes < E.alpha envelope.now result }
 {
     let mut low = from;
     let mut high = to;
@@ -67,7 +67,7 @@ fn next_rise<E: Envelope>(envelope: &E, from: u64, to: u64, bytes: u64) -> u64
 
 // Delay and held bytes of whatever arrives inside the envelope and is sent by the supply. None where there is no closing span.
 pub fn bound_over<S: Supply, E: Envelope>(supply: &S, envelope: &E) -> Option<(Ticks, Bytes)>
-    ensures { MatchOption result (most_span < closing (alpha envelope.now) (supplied supply.now)) (λ b. (closing (alpha envelope.now) (supplied supply.now) ≤ most_span) × (b.0.0 ≡ delay (alpha envelope.now) (supplied supply.now)) × (b.1.0 ≡ held (alpha envelope.now) (supplied supply.now))) }
+    ensures { MatchOption result (most_span < closing (E.alpha envelope.now) (S.supplied supply.now)) (λ b. (closing (E.alpha envelope.now) (S.supplied supply.now) ≤ most_span) × (b.0.0 ≡ delay (E.alpha envelope.now) (S.supplied supply.now)) × (b.1.0 ≡ held (E.alpha envelope.now) (S.supplied supply.now))) }
 {
     let mut span = 1u64;
     let mut delay = 0u64;

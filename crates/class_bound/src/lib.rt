@@ -21,7 +21,7 @@ pub fn bound_under<E: Envelope>(
     class: u8,
     envelope: &E,
 ) -> Result<(Ticks, Bytes), Refusal>
-    ensures { MatchResult result (λ b. IsBound (contents plan.now) class (alpha envelope.now) b.0.0 b.1.0) (λ e. Unbounded (contents plan.now) class (alpha envelope.now) e) }
+    ensures { MatchResult result (λ b. IsBound (contents plan.now) class (E.alpha envelope.now) b.0.0 b.1.0) (λ e. Unbounded (contents plan.now) class (E.alpha envelope.now) e) }
 {
     if sure(plan, class)?.0 == 0 {
         return Err(Refusal::NoSureTick);

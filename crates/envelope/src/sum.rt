@@ -13,11 +13,11 @@ pub struct Sum<P: Envelope, Q: Envelope> {
 }
 
 impl<P: Envelope, Q: Envelope> Envelope for Sum<P, Q> {
-    ghost alpha = { λ s d. P.Envelope.alpha s.first d + Q.Envelope.alpha s.second d };
+    ghost alpha = { λ s d. P.alpha s.first d + Q.alpha s.second d };
 
-    ghost reach = { λ s. min (P.Envelope.reach s.first) (Q.Envelope.reach s.second) };
+    ghost reach = { λ s. min (P.reach s.first) (Q.reach s.second) };
 
-    ghost laws = { sum_laws P.Envelope.laws Q.Envelope.laws (λ s. s.first) (λ s. s.second) };
+    ghost laws = { sum_laws P.laws Q.laws (λ s. s.first) (λ s. s.second) };
 
     fn at(&self, span: Ticks) -> Result<Load, Refusal> {
         let first = self.first.at(span)?;

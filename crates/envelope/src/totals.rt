@@ -11,7 +11,7 @@ use units::{Bytes, Refusal, Ticks};
 
 // The bytes of all the envelopes in a span, added. Refused beyond the least of their reaches, and beyond 40,000,000 ticks.
 pub fn total<E: Envelope>(row: &[E], span: Ticks) -> Result<Load, Refusal>
-    ensures { result ≡ answer (least_reach reach row.now) (sum_at alpha row.now) span.0 }
+    ensures { result ≡ answer (least_reach E.reach row.now) (sum_at E.alpha row.now) span.0 }
 {
     if span.0 > FLOW_REACH {
         return Err(Refusal::BeyondReach);
@@ -25,7 +25,7 @@ pub fn total<E: Envelope>(row: &[E], span: Ticks) -> Result<Load, Refusal>
 
 // The least of the reaches, 40,000,000 at the most.
 pub fn least_reach<E: Envelope>(row: &[E]) -> Ticks
-    ensures { result.0 ≡ least_reach reach row.now }
+    ensures { result.0 ≡ least_reach E.reach row.now }
 {
     let mut least = FLOW_REACH;
     for each in row {
@@ -39,11 +39,11 @@ pub fn least_reach<E: Envelope>(row: &[E]) -> Ticks
 pub struct AllOf<'a, E: Envelope>(pub &'a [E]);
 
 impl<'a, E: Envelope> Envelope for AllOf<'a, E> {
-    ghost alpha = { λ s. sum_at E.Envelope.alpha s.0.now };
+    ghost alpha = { λ s. sum_at E.alpha s.0.now };
 
-    ghost reach = { λ s. least_reach E.Envelope.reach s.0.now };
+    ghost reach = { λ s. least_reach E.reach s.0.now };
 
-    ghost laws = { all_laws E.Envelope.laws (λ s. s.0.now) };
+    ghost laws = { all_laws E.laws (λ s. s.0.now) };
 
     fn at(&self, span: Ticks) -> Result<Load, Refusal> {
         total(self.0, span)

@@ -14,7 +14,7 @@ pub(crate) trait Waits {
 // The greatest over the classes below `class`, taken from the highest of them down.
 pub(crate) fn greatest_below<W: Waits>(frames: &W, class: u8) -> u64
     requires { class ≤ 7 }
-    ensures { result ≡ greatest (waits frames.now) class }
+    ensures { result ≡ greatest (W.waits frames.now) class }
 {
     let mut most = 0u64;
     for lower in (0..class).rev() {
