@@ -4,7 +4,7 @@ use Rattle.reader.specs.Views.{entry_of}
 use Rattle.plan.specs.Arranged.{flows_of, bucket_kind, periodic_kind}
 use Rattle.plan.proofs.Grouping.{held_none, held_same, bucket_more, periodic_more, other_more}
 use Rattle.plan.proofs.class_flows.class_flows.Goals as goal
-use Rattle.plan.proofs.class_flows.class_flows.Goals.{then-line-class+in-Bucket+in_ok-push, then-line-class+in-Periodic+in_ok-push-2, else-line-class}
+use Rattle.plan.proofs.class_flows.class_flows.Goals.{then-line-class+in-Bucket+in_ok-push-in-Bucket, then-line-class+in-Periodic+in_ok-push-in-Periodic, else-line-class}
 
 pub loop-line-init : goal.loop-line-init
 loop-line-init c = held_none _ _ _ c.new-buckets.ensures.items c.new-periodics.ensures.items
@@ -19,10 +19,10 @@ loop-line-preserved c =
     let at = c.line-item.is in
     let lt = c.loop-line-test.true in
     elim c.if-line-class.branch [
-      | then-line-class+in-Bucket+in_ok-push w ↦
-          held_same _ _ _ _ _ _ (ap vec_items w.buckets-is ∙ w.in_ok-push.ensures.items) (ap vec_items w.periodics-is) (bucket_more _ ls i l lt at bs ps c.loop-line.invariant w.in-Bucket.bucket w.if-line-class.true w.in-Bucket.is)
-      | then-line-class+in-Periodic+in_ok-push-2 w ↦
-          held_same _ _ _ _ _ _ (ap vec_items w.buckets-is) (ap vec_items w.periodics-is ∙ w.in_ok-push-2.ensures.items) (periodic_more _ ls i l lt at bs ps c.loop-line.invariant w.in-Periodic.periodic w.if-line-class.true w.in-Periodic.is)
+      | then-line-class+in-Bucket+in_ok-push-in-Bucket w ↦
+          held_same _ _ _ _ _ _ (ap vec_items w.buckets-is ∙ w.in_ok-push-in-Bucket.ensures.items) (ap vec_items w.periodics-is) (bucket_more _ ls i l lt at bs ps c.loop-line.invariant w.in-Bucket.bucket w.if-line-class.true w.in-Bucket.is)
+      | then-line-class+in-Periodic+in_ok-push-in-Periodic w ↦
+          held_same _ _ _ _ _ _ (ap vec_items w.buckets-is) (ap vec_items w.periodics-is ∙ w.in_ok-push-in-Periodic.ensures.items) (periodic_more _ ls i l lt at bs ps c.loop-line.invariant w.in-Periodic.periodic w.if-line-class.true w.in-Periodic.is)
       | else-line-class w ↦ held_same _ _ _ _ _ _ (ap vec_items w.buckets-is) (ap vec_items w.periodics-is) (other_more _ ls i l lt at bs ps c.loop-line.invariant w.if-line-class.false)
     ]
 
