@@ -15,7 +15,7 @@ overflow_add-slot_end c =
 
 pub returns-then-begin-slot_end : goal.returns-then-begin-slot_end
 returns-then-begin-slot_end c =
-    let m = meets_here c.args.cycle c.args.slots.now c.requires.apart c.args.begin c.args.end c.requires.inside c.loop-slot.slot-index c.loop-slot-test.true c.requires.some (inl (c.if-slot_end.true, c.if-begin-slot_end.true)) in
+    let m = meets_here c.args.cycle c.args.slots.now c.requires.apart c.args.begin c.args.end c.requires.inside c.loop-slot.slot-index c.loop-slot-test.true c.requires.some (inl (c.if-slot-end.true, c.if-begin-slot_end.true)) in
     (λ _. m, λ _. refl)
 
 pub returns-then-begin-cycle : goal.returns-then-begin-cycle
@@ -27,7 +27,7 @@ pub loop-slot-preserved : goal.loop-slot-preserved
 loop-slot-preserved c =
     below_more (λ j. (t : ℕ) → c.args.begin ≤ t → t < c.args.end → in_slot c.args.cycle (get_or c.args.slots.now j (slot 0 0)) t ≡ false) c.loop-slot.slot-index c.loop-slot.invariant
     (meets_not c.args.cycle c.args.slots.now c.requires.apart c.args.begin c.args.end c.requires.inside c.loop-slot.slot-index c.loop-slot-test.true
-    (λ h. elim c.else-slot_end.either [ inl e ↦ omega (arith, h.1, e.1) | inr e ↦ omega (arith, h.0) ])
+    (λ h. elim c.else-slot-end.either [ inl e ↦ omega (arith, h.1, e.1) | inr e ↦ omega (arith, h.0) ])
     c.if-begin-cycle.false)
 
 pub returns : goal.returns

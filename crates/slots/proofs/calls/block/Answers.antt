@@ -9,7 +9,7 @@ use Rattle.slots.proofs.OfPlans.{plan_apart}
 use Rattle.slots.proofs.calls.block.Goals as goal
 
 pub invariant_of-frames : goal.invariant_of-frames
-invariant_of-frames c = (plan_apart c.args.plan.now c.args.class c.as_slice.result.now (c.as_slice.ensures ∙ c.in_ok-found.ensures.1), tt)
+invariant_of-frames c = record { apart = plan_apart c.args.plan.now c.args.class c.as_slice.result.now (c.as_slice.ensures ∙ c.in_ok-found.ensures.1) }
 
 pub returns : goal.returns
 unfolding sure block_of block
