@@ -42,7 +42,15 @@ invariant_of-result c =
     let table = subst (λ xs. take (2 * length xs + 1) c.set_table.new.marks ≡ table_of c.cycle-cycle.result.0 xs) c.as_slice.ensures c.set_table.ensures in
     let apart = subst (λ v. Apart v (items s)) (sym n) (plan_apart p c.args.class (items s) e) in
     let whole = c.in_ok-sure_ticks.ensures.1 ∙ sym (plan_sure p c.args.class (items s) e) in
-    (omega arith, (omega (arith, p.gates.most), (apart, (whole, (omega (arith, c.in_ok-blocking.ensures.1), (c.set_table.auto.marks, (table, tt)))))))
+    record {
+      some = omega arith;
+      short = omega (arith, p.gates.most);
+      apart = apart;
+      whole = whole;
+      low = omega (arith, c.in_ok-blocking.ensures.1);
+      room = c.set_table.auto.marks;
+      table = table;
+    }
 
 pub returns : goal.returns
 unfolding curve
