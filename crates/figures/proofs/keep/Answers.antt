@@ -1,7 +1,7 @@
 use Rattle.std.proofs.Common.{◌≡◌, suc, ◌-◌, min, length, take, vec_len, ap, ◌∙◌, arith}
 use Rattle.units.specs.Limits.{most_text}
-use Rattle.report.proofs.Keeping.{take_room, added}
-use Rattle.report.proofs.keep.Goals as goal
+use Rattle.figures.proofs.Keeping.{take_room, added}
+use Rattle.figures.proofs.keep.Goals as goal
 
 pub returns : goal.returns
 returns c =
