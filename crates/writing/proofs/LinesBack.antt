@@ -17,7 +17,7 @@ use Rattle.text.specs.declared.keys.Key.TheVariants as key
 use Rattle.text.specs.Cuts.{before, past, has, how_many}
 use Rattle.text.specs.Keys.{key as key_of, word, value_in}
 use Rattle.reader.specs.Chain.{within}
-use Rattle.reader.specs.Contents.{Flow, ClassEntry}
+use Rattle.reader.specs.Contents.{ClassEntry}
 use Rattle.reader.specs.Fields.{number_field, largest_field, letters_from, gates_in, gate_in, room_most, sizes_in}
 use Rattle.reader.specs.Entries.{line_at, due_line, in_field, number_line, gate_line, class_line}
 use Rattle.reader.proofs.Checked.{in_room}

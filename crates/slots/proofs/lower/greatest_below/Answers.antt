@@ -1,4 +1,4 @@
-use Rattle.std.proofs.Common.{◌≡◌, ◌-◌, max, ap, arith}
+use Rattle.std.proofs.Common.{◌≡◌, max, ap, arith}
 use Rattle.calculus.specs.Searches.{greatest}
 use Rattle.calculus.proofs.Bounded.{greatest_none, greatest_last}
 use Rattle.slots.proofs.lower.greatest_below.Goals as goal

@@ -1,4 +1,4 @@
-use Rattle.std.proofs.Common.{◌≡◌, ◌+◌, ◌-◌, min, vec_items, ap, ◌∙◌, subst, arith}
+use Rattle.std.proofs.Common.{◌≡◌, ◌+◌, ◌-◌, vec_items, ap, ◌∙◌, subst, arith}
 use Rattle.calculus.specs.Searches.{lasts}
 use Rattle.calculus.proofs.Lasts.{lasts_most}
 use Rattle.gates.specs.declared.gate_list.GateList.{GateList}

@@ -1,4 +1,4 @@
-use Rattle.std.proofs.Common.{◌+◌, ◌-◌, drop, sym, ap, ◌∙◌, arith}
+use Rattle.std.proofs.Common.{◌+◌, drop, sym, ap, ◌∙◌, arith}
 use Rattle.text.specs.Numerals.{digits_from}
 use Rattle.text.proofs.Digit.{digit_on, digit_low, digit_high, digit_end, ten_more, seven}
 use Rattle.text.proofs.numerals.digits.Goals as goal
