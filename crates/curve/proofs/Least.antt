@@ -1,6 +1,6 @@
 -- The least count of any window of a length: its laws, its first window that has enough, and the laws of every curve. Assumes nothing.
 use Rattle.std.proofs.Common.{◌≡◌, ℕ, zero, suc, ◌+◌, ◌-◌, ◌*◌, ◌%◌, ◌<◌, ◌≤◌, Bool, List, [], ◌∷◌, length, sym, refl, ap, ◌∙◌, inl, inr, add-zero, mod-lt, arith}
-use Rattle.std.specs.List.{AllByRecursion as All}
+use Rattle.std.specs.List.{AllByRecursion}
 use Rattle.std.proofs.lemmas.Bool.{cases_lt}
 use Rattle.calculus.specs.Searches.{count}
 use Rattle.calculus.proofs.Bounded.{least_le, least_at}
@@ -107,12 +107,12 @@ module _ (L : ℕ) (pos : 0 < L) (ss : List Slot) (v : Apart L ss) where
       )
 
 -- each slot fits, and what holds of each
-fit_and : (L : ℕ) (P : Slot → Type 0) (ss : List Slot) → All (Fit L) ss → All P ss → All (λ s. Fit L s × P s) ss
+fit_and : (L : ℕ) (P : Slot → Type 0) (ss : List Slot) → AllByRecursion (Fit L) ss → AllByRecursion P ss → AllByRecursion (λ s. Fit L s × P s) ss
 fit_and L P [] a b = tt
 fit_and L P (s ∷ ss) a b = ((a.0, b.0), fit_and L P ss a.1 b.1)
 
 -- what each window from a slot's end on has at least, the least is at least
-pub least_above : (L : ℕ) → 0 < L → (ss : List Slot) → Apart L ss → ¬ (length ss ≡ 0) → (d m : ℕ) → All (λ s. m ≤ count (covered L ss) (end_of s) d) ss → m ≤ least_covered L ss d
+pub least_above : (L : ℕ) → 0 < L → (ss : List Slot) → Apart L ss → ¬ (length ss ≡ 0) → (d m : ℕ) → AllByRecursion (λ s. m ≤ count (covered L ss) (end_of s) d) ss → m ≤ least_covered L ss d
 least_above L pos [] v some d m ends = absurd (some refl)
 least_above L pos (s ∷ ss) v some d m ends =
     let r = least_reached L pos (s ∷ ss) d in

@@ -1,7 +1,7 @@
 -- The table of a curve tells how many ticks in slots there are from the first slot's beginning on, to any place of two cycles.
 -- Assumes nothing.
 use Rattle.std.proofs.Common.{◌≡◌, ℕ, zero, suc, ◌+◌, ◌-◌, ◌<◌, ◌≤◌, min, List, [], ◌∷◌, ◌++◌, length, get_or, take, sum_by, sym, refl, ap, ◌∙◌, inl, inr, add-one, arith}
-use Rattle.std.specs.List.{AllByRecursion as All}
+use Rattle.std.specs.List.{AllByRecursion}
 use Rattle.std.proofs.lemmas.Bool.{cases_lt, cases_Bool, both_ways}
 use Rattle.std.proofs.lemmas.List.Sums.{sum_by-cons}
 use Rattle.std.proofs.lemmas.List.{length-append, get_or_at, append_assoc, take_more}
@@ -275,13 +275,13 @@ unfolding marks_of
 marks_more first a p ss i z h = ap (marks_of first a p) (take_more ss i z h) ∙ marks_append first a p (take i ss) (get_or ss i z ∷ [])
 
 -- no slot of a chain begins before its first
-chain_begins : (L limit b : ℕ) (ss : List Slot) → Chain L limit ss → b ≤ next limit ss → All (λ s. b ≤ s.begin.0) ss
+chain_begins : (L limit b : ℕ) (ss : List Slot) → Chain L limit ss → b ≤ next limit ss → AllByRecursion (λ s. b ≤ s.begin.0) ss
 unfolding next
 chain_begins L limit b [] c h = tt
 chain_begins L limit b (s ∷ ss) c h = (h, chain_begins L limit b ss c.3 (omega arith))
 
 -- nor of slots that are apart
-pub first_begins : (L : ℕ) (ss : List Slot) → Apart L ss → All (λ s. next 0 ss ≤ s.begin.0) ss
+pub first_begins : (L : ℕ) (ss : List Slot) → Apart L ss → AllByRecursion (λ s. next 0 ss ≤ s.begin.0) ss
 unfolding next
 first_begins L [] v = tt
 first_begins L (s ∷ ss) v = chain_begins L (s.begin.0 + L) s.begin.0 (s ∷ ss) (chain_of L (s.begin.0 + L) (s ∷ ss) v) (omega arith)

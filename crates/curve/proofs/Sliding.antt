@@ -2,7 +2,7 @@
 -- Assumes nothing.
 use Rattle.std.proofs.Common.{◌≡◌, ℕ, zero, suc, ◌+◌, ◌-◌, ◌*◌, ◌/◌, ◌%◌, ◌<◌, ◌≤◌, true, false, List, [], ◌∷◌, sym, refl, ap, ◌∙◌, inl, inr, add-zero, mod-eq_of_lt, arith}
 use native.Mathlib.Nat.{suc-mod, add-mod_right}
-use Rattle.std.specs.List.{AllByRecursion as All}
+use Rattle.std.specs.List.{AllByRecursion}
 use Rattle.std.proofs.lemmas.Bool.{or_left, or_right, cases_Bool, both_ways}
 use Rattle.calculus.specs.Searches.{count}
 use Rattle.calculus.proofs.Counts.{bit_le, bit_yes, bit_no, count_slide, count_round, count_rounds}
@@ -77,7 +77,7 @@ module _ (L : ℕ) (ss : List Slot) (d : ℕ) where
         omega arith
 
 -- the slot that a tick is in, and what holds of each slot
-slot_of : (L : ℕ) (P : Slot → Type 0) (ss : List Slot) (t : ℕ) → covered L ss t ≡ true → All P ss → (s : Slot) × (in_slot L s t ≡ true) × P s × ((v : ℕ) → in_slot L s v ≡ true → covered L ss v ≡ true)
+slot_of : (L : ℕ) (P : Slot → Type 0) (ss : List Slot) (t : ℕ) → covered L ss t ≡ true → AllByRecursion P ss → (s : Slot) × (in_slot L s t ≡ true) × P s × ((v : ℕ) → in_slot L s v ≡ true → covered L ss v ≡ true)
 unfolding covered
 slot_of L P [] t e a = absurd (both_ways false refl e)
 slot_of L P (s ∷ ss) t e a =
@@ -89,7 +89,7 @@ slot_of L P (s ∷ ss) t e a =
     ]
 
 -- at least m of the d ticks from each slot's end on are in slots
-module _ (L : ℕ) (ss : List Slot) (d m : ℕ) (ends : All (λ s. Fit L s × (m ≤ count (covered L ss) (end_of s) d)) ss) where
+module _ (L : ℕ) (ss : List Slot) (d m : ℕ) (ends : AllByRecursion (λ s. Fit L s × (m ≤ count (covered L ss) (end_of s) d)) ss) where
   -- so are they of the d ticks after a tick in a slot
   window_in : (t : ℕ) → covered L ss t ≡ true → m ≤ count (covered L ss) (t + 1) d
   window_in t e =
@@ -116,7 +116,7 @@ slot_begins : (L : ℕ) (s : Slot) → Fit L s → in_slot L s s.begin.0 ≡ tru
 slot_begins L s f = let a = since_past L s s.begin.0 (omega arith) (omega arith) (omega arith) in lt_in_slot L s s.begin.0 (omega arith)
 
 -- what each window from a slot's end on has at least, every window has at least
-pub ends_enough : (L : ℕ) (s : Slot) (ss : List Slot) (d m : ℕ) → All (λ x. Fit L x × (m ≤ count (covered L (s ∷ ss)) (end_of x) d)) (s ∷ ss) → (t : ℕ) → m ≤ count (covered L (s ∷ ss)) t d
+pub ends_enough : (L : ℕ) (s : Slot) (ss : List Slot) (d m : ℕ) → AllByRecursion (λ x. Fit L x × (m ≤ count (covered L (s ∷ ss)) (end_of x) d)) (s ∷ ss) → (t : ℕ) → m ≤ count (covered L (s ∷ ss)) t d
 unfolding covered
 ends_enough L s ss d m ends t =
     let f : Fit L s = ends.0.0 in

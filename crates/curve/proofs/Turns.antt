@@ -1,6 +1,6 @@
 -- What one turn of a loop over the marks reads off the table. Assumes nothing.
 use Rattle.std.proofs.Common.{◌≡◌, ℕ, zero, suc, ◌+◌, ◌-◌, ◌<◌, ◌≤◌, min, List, [], ◌∷◌, length, get_or, take, sym, ap, ◌∙◌, subst, inl, inr, arith}
-use Rattle.std.specs.List.{AllByRecursion as All}
+use Rattle.std.specs.List.{AllByRecursion}
 use Rattle.std.proofs.ByRecursion.{All-get_or, All-weaker, All-more}
 use Rattle.std.proofs.lemmas.Bool.{cases_lt}
 use Rattle.calculus.specs.Searches.{count}
@@ -21,12 +21,12 @@ pub slot_fits : (L : ℕ) (ss : List Slot) (i : ℕ) (x : Slot) → Apart L ss �
 slot_fits L ss i x v h = All-get_or (Fit L) ss i x h (apart_fit L ss v)
 
 -- each slot of a chain ends by its limit
-chain_ends : (L limit : ℕ) (ss : List Slot) → Chain L limit ss → All (λ s. end_of s ≤ limit) ss
+chain_ends : (L limit : ℕ) (ss : List Slot) → Chain L limit ss → AllByRecursion (λ s. end_of s ≤ limit) ss
 chain_ends L limit [] c = tt
 chain_ends L limit (s ∷ ss) c = let n = next_le L limit ss c.3 in (omega arith, chain_ends L limit ss c.3)
 
 -- each slot ends by the time the first begins again
-slots_end : (L : ℕ) (ss : List Slot) → Apart L ss → All (λ s. end_of s ≤ next 0 ss + L) ss
+slots_end : (L : ℕ) (ss : List Slot) → Apart L ss → AllByRecursion (λ s. end_of s ≤ next 0 ss + L) ss
 slots_end L ss v = chain_ends L (next 0 ss + L) ss (chain_of L (next 0 ss + L) ss v)
 
 -- where f has not come to x, which it does at the last of n, there are more
@@ -39,7 +39,7 @@ not_last f n k x h low high =
 
 -- windows of d ticks from the ends of the first slots on: one slot more, and a least that is no more
 pub ends_more : (L : ℕ) (ss : List Slot) (d i best less : ℕ) (x : Slot) → i < length ss → less ≤ best → less ≤ count (covered L ss) (end_of (get_or ss i x)) d →
-    All (λ s. best ≤ count (covered L ss) (end_of s) d) (take i ss) → All (λ s. less ≤ count (covered L ss) (end_of s) d) (take (i + 1) ss)
+    AllByRecursion (λ s. best ≤ count (covered L ss) (end_of s) d) (take i ss) → AllByRecursion (λ s. less ≤ count (covered L ss) (end_of s) d) (take (i + 1) ss)
 ends_more L ss d i best less x h l here a =
     All-more (λ s. less ≤ count (covered L ss) (end_of s) d) ss i x h
     (All-weaker (λ s. best ≤ count (covered L ss) (end_of s) d) (λ s. less ≤ count (covered L ss) (end_of s) d) (λ s k. omega arith) (take i ss) a)
@@ -47,7 +47,7 @@ ends_more L ss d i best less x h l here a =
 
 -- windows that have y: one slot more, and windows that are no shorter
 pub ends_wider : (L : ℕ) (ss : List Slot) (y i far wide : ℕ) (x : Slot) → i < length ss → far ≤ wide → y ≤ count (covered L ss) (end_of (get_or ss i x)) wide →
-    All (λ s. y ≤ count (covered L ss) (end_of s) far) (take i ss) → All (λ s. y ≤ count (covered L ss) (end_of s) wide) (take (i + 1) ss)
+    AllByRecursion (λ s. y ≤ count (covered L ss) (end_of s) far) (take i ss) → AllByRecursion (λ s. y ≤ count (covered L ss) (end_of s) wide) (take (i + 1) ss)
 ends_wider L ss y i far wide x h l here a =
     All-more (λ s. y ≤ count (covered L ss) (end_of s) wide) ss i x h
     (All-weaker (λ s. y ≤ count (covered L ss) (end_of s) far) (λ s. y ≤ count (covered L ss) (end_of s) wide) (λ s k. let g = count_grows (covered L ss) (end_of s) far wide l in omega arith) (take i ss) a)

@@ -1,6 +1,6 @@
 -- Flows that stand in order are their own arrangement by class and kind.
 use Rattle.std.proofs.Common.{◌≡◌, ℕ, zero, suc, ◌<◌, ◌≤◌, true, false, eqb, List, [], ◌∷◌, ◌++◌, filter, sym, refl, ap, ◌∙◌, subst, ⊎_elim, arith}
-use Rattle.std.specs.List.{AllByRecursion as All}
+use Rattle.std.specs.List.{AllByRecursion}
 use Rattle.std.proofs.lemmas.Bool.{cases_lt, eq-eqb, and_from, and_right, cond-true, cond-false}
 use Rattle.reader.specs.declared.parsed.Kind.{Kind}
 use Rattle.reader.specs.declared.parsed.Kind.TheVariants as kind
@@ -13,12 +13,12 @@ use Rattle.plan.specs.Arranged.{same_kind, of_kind, flows_of, groups}
 use Rattle.plan.proofs.Grouping.{other_class}
 
 -- no flow has a higher class than the place before it
-falls_all : (cs : List ClassEntry) (p : Place) (n : ℕ) (fs : List FlowEntry) → p.class ≤ n → Ordered cs p fs → All (λ f. f.class ≤ n) fs
+falls_all : (cs : List ClassEntry) (p : Place) (n : ℕ) (fs : List FlowEntry) → p.class ≤ n → Ordered cs p fs → AllByRecursion (λ f. f.class ≤ n) fs
 falls_all cs p n [] h o = tt
 falls_all cs p n (f ∷ fs) h o = let le = o.0.falls in let below : f.class ≤ n = omega arith in (below, falls_all cs (entry_place f) n fs below o.1)
 
 -- lower classes have no flow of the class c
-below_none : (c : ℕ) (k : Kind) (fs : List FlowEntry) (n : ℕ) → n < c → All (λ f. f.class ≤ n) fs → flows_of c k fs ≡ []
+below_none : (c : ℕ) (k : Kind) (fs : List FlowEntry) (n : ℕ) → n < c → AllByRecursion (λ f. f.class ≤ n) fs → flows_of c k fs ≡ []
 unfolding flows_of
 below_none c k [] n h all = refl
 below_none c k (f ∷ fs) n h all = let le = all.0 in cond-false _ _ _ (other_class c k f (λ e. omega arith)) ∙ below_none c k fs n h all.1
@@ -110,7 +110,7 @@ groups_step n lower cs p (f ∷ fs) h o =
     let le = o.0.falls in
     ⊎_elim
     (λ (l : f.class < n).
-    let all : All (λ g. g.class ≤ f.class) (f ∷ fs) = (omega arith, falls_all cs (entry_place f) f.class fs (omega arith) o.1) in
+    let all : AllByRecursion (λ g. g.class ≤ f.class) (f ∷ fs) = (omega arith, falls_all cs (entry_place f) f.class fs (omega arith) o.1) in
     (λ i. (below_none n kind.Bucket (f ∷ fs) f.class l all i ++ below_none n kind.Periodic (f ∷ fs) f.class l all i) ++ groups n (f ∷ fs))
     ∙ lower cs (entry_place f) (f ∷ fs) l (follows_self cs p f o.0, o.1))
     (λ (l : n ≤ f.class).

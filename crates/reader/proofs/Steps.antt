@@ -1,7 +1,7 @@
 -- Lists of lines, by steps of a loop that counts i from 0 to n.
 use Rattle.std.proofs.Common.{◌≡◌, ℕ, suc, ◌+◌, ◌-◌, ◌<◌, ◌≤◌, cond, eqb, List, [], ◌∷◌, ◌++◌, map, length, drop, set, IfOk, Some, None, Ok, Err, Option, Result, sym, refl, ap, ◌∙◌, arith, MatchOption}
 use Rattle.std.specs.Option.{ok_or}
-use Rattle.std.specs.List.{AllByRecursion as All}
+use Rattle.std.specs.List.{AllByRecursion}
 use Rattle.std.proofs.ByRecursion.{All-get_or}
 use Rattle.std.proofs.lemmas.List.{length-map, length-drop, map-append}
 use Rattle.std.proofs.lemmas.Bool.{eq-eqb, ne_eqb, le-leb, lt-leb, and_from, and_left, and_right, cond-true, cond-false}
@@ -106,11 +106,11 @@ pub sizes_length : (ts : List TrafficClass) (i : ℕ) → length ts ≡ 8 → i 
 sizes_length ts i e h = let l = length-map (drop (8 - i) ts) sizes_of in let d = length-drop (8 - i) ts in omega arith
 
 -- lines that are long enough and as many as a gate list has make one exactly where their lengths add up to the cycle
-each_long : (gs : List GateLine) (i : ℕ) → All LengthFits gs → i < length gs → 1 ≤ (line gs i).length.0
+each_long : (gs : List GateLine) (i : ℕ) → AllByRecursion LengthFits gs → i < length gs → 1 ≤ (line gs i).length.0
 each_long gs i all h = (All-get_or LengthFits gs i (record { length = record { 0 = 0 }; gates = [] }) h all).0
 
 -- making a gate list does the check of the sum
-pub listed_is : (cycle n : ℕ) (gs : List GateLine) (o : Option GateList) → All LengthFits gs → length gs ≡ n → 1 ≤ n → n ≤ most_lines → cycle ≤ most_cycle →
+pub listed_is : (cycle n : ℕ) (gs : List GateLine) (o : Option GateList) → AllByRecursion LengthFits gs → length gs ≡ n → 1 ≤ n → n ≤ most_lines → cycle ≤ most_cycle →
     MatchOption o (Lawful gs cycle → ⊥) (λ g. (g.cycle ≡ record { 0 = cycle }) × (lines_of g ≡ gs)) →
     map_ok lines_of (ok_or o (Sum (3 + n))) ≡ cond (eqb (total gs) cycle) (Ok gs) (Err (Sum (3 + n)))
 listed_is cycle n gs None all is some few most none =

@@ -1,6 +1,6 @@
 // The lists of a plan: the lines one after another.
 ghost use Rattle.std.specs.Prelude.{◌≡◌, ◌+◌, ◌<◌, ◌≤◌, [], map, IfOk, vec_items, vec_len, vec_capacity, OnOk};
-ghost use Rattle.std.specs.List.{AllByRecursion as All};
+ghost use Rattle.std.specs.List.{AllByRecursion};
 ghost use Rattle.units.specs.Limits.{most_port, most_lines, most_cycle, most_flows};
 ghost use Rattle.reader.specs.Chain.{map_ok, each, skip};
 ghost use Rattle.reader.specs.Entries.{next_gate, next_flow};
@@ -70,7 +70,7 @@ impl Reader<'_> {
         requires empty { lines.items ≡ [] }
         requires room { most_lines ≤ vec_capacity lines }
         ensures value { map_ok vec_items result ≡ each next_gate count self.old.line self.old.rest.now [] }
-        ensures bound { IfOk result (λ v. All LengthFits v.items × (vec_len v ≡ count)) }
+        ensures bound { IfOk result (λ v. AllByRecursion LengthFits v.items × (vec_len v ≡ count)) }
         ensures rest { OnOk result (self.new.rest.now ≡ skip count self.old.rest.now) }
         ensures line { OnOk result (self.new.line ≡ self.old.line + count) }
     {

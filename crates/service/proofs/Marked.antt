@@ -1,7 +1,7 @@
 -- Setting the marks of a table. Assumes nothing.
 use Rattle.std.proofs.Common.{◌≡◌, ℕ, ◌+◌, ◌-◌, ◌*◌, ◌<◌, ◌≤◌, List, [], ◌∷◌, ◌++◌, length, get_or, take, drop, set, sym, ap, ◌∙◌, arith}
 use lib.Seq.{sets, sets-eq}
-use Rattle.std.specs.List.{AllByRecursion as All}
+use Rattle.std.specs.List.{AllByRecursion}
 use Rattle.std.proofs.ByRecursion.{All-get_or, All-from_get_or}
 use Rattle.std.proofs.lemmas.List.{take_all, take_at, append_assoc, length-append, length-take-le}
 use Rattle.units.specs.Limits.{most_cycle}
@@ -45,7 +45,7 @@ pub marked_all : (ss : List Slot) (first place before : ℕ) (old : List Mark) (
 marked_all ss first place before old at i sum marks le m = m.set_so ∙ ap (λ v. sets old at (marks_of first place before v)) (take_all i ss le)
 
 -- the slots do not begin before the first of them
-pub from_first_lem : (L : ℕ) (ss : List Slot) → Apart L ss → L ≤ most_cycle → (first : ℕ) → first ≡ next 0 ss → All (From first) ss
+pub from_first_lem : (L : ℕ) (ss : List Slot) → Apart L ss → L ≤ most_cycle → (first : ℕ) → first ≡ next 0 ss → AllByRecursion (From first) ss
 from_first_lem L ss v short first e =
     All-from_get_or (From first) ss (slot 0 0) (λ i lt.
     let b = All-get_or (λ (s : Slot). next 0 ss ≤ s.begin.0) ss i (slot 0 0) lt (first_begins L ss v) in

@@ -1,7 +1,7 @@
 // The table of a curve: a mark for each slot of two cycles, and one where they end.
 ghost use Rattle.std.specs.Prelude.{◌≡◌, ◌+◌, ◌*◌, ◌<◌, ◌≤◌, length, take};
 ghost use Rattle.std.proofs.lemmas.List.Edits.{sets};
-ghost use Rattle.std.specs.List.{AllByRecursion as All};
+ghost use Rattle.std.specs.List.{AllByRecursion};
 ghost use Rattle.units.specs.Limits.{most_cycle};
 ghost use Rattle.sure_ticks.specs.Sure.{lengths};
 ghost use Rattle.sure_ticks.specs.Laws.{next, Apart};
@@ -46,7 +46,7 @@ fn first_begin(slots: &[Slot]) -> u64
 
 // Sets a mark for each slot from the index `at` on, in a cycle in which the first slot has a place and so many sure ticks before it.
 fn set_marks(marks: &mut [Mark], at: usize, slots: &[Slot], first: u64, place: u64, before: u64)
-    requires begins { All (From first) slots.now }
+    requires begins { AllByRecursion (From first) slots.now }
     requires all { lengths slots.now ≤ most_cycle }
     requires low { place ≤ most_cycle }
     requires few { before ≤ most_cycle }

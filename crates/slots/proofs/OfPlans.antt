@@ -1,6 +1,6 @@
 -- The slots of a plan are apart, few and small. Assumes nothing.
 use Rattle.std.proofs.Common.{◌≡◌, ℕ, zero, suc, ◌-◌, ◌≤◌, ◌&&◌, List, [], ◌∷◌, map, vec_items, sym, ap, ◌∙◌, subst, arith}
-use Rattle.std.specs.List.{AllByRecursion as All}
+use Rattle.std.specs.List.{AllByRecursion}
 use Rattle.std.proofs.ByRecursion.{All-weaker}
 use Rattle.std.proofs.lemmas.Bool.{cond_both}
 use Rattle.units.specs.Limits.{most_cycle, most_frame}
@@ -33,7 +33,7 @@ module _ (p : Plan) (k : ℕ) (ss : List Slot) (e : ss ≡ slots_of (contents p)
       (slots_apart p.gates.cycle.0 (cycle_some _ _ (law_of p.gates)) (opened (vec_items p.gates.lines)) (opened_later _ _ (law_of p.gates)) (longest (contents p)) k)
 
   -- their numbers have 32 bits
-  pub plan_small : All Small ss
+  pub plan_small : AllByRecursion Small ss
   plan_small = All-weaker (Fit p.gates.cycle.0) Small (λ s f. (omega (arith, f.0, p.gates.most), omega (arith, f.2, p.gates.most))) ss (apart_fit p.gates.cycle.0 ss plan_apart)
 
   -- their lengths fit into a cycle

@@ -1,6 +1,6 @@
 // What is asked of a plan: the slots of a class, its sure ticks, its block.
 ghost use Rattle.std.specs.Prelude.{◌≡◌, ◌*◌, ◌<◌, ◌≤◌, ◌++◌, length, drop, MatchResult};
-ghost use Rattle.std.specs.List.{AllByRecursion as All};
+ghost use Rattle.std.specs.List.{AllByRecursion};
 ghost use Rattle.units.specs.Limits.{most_cycle, most_slots};
 ghost use Rattle.units.specs.declared.refusal.Refusal.TheVariants.{NoClass};
 ghost use Rattle.plan.specs.PlanContents.{contents};
@@ -60,7 +60,7 @@ pub fn block(plan: &Plan, class: u8) -> Result<Ticks, Refusal>
 // Writes slots into the list from its beginning on.
 fn write(slots: &[Slot], list: &mut [u32])
     requires room { 2 * length slots.now ≤ length list.old }
-    requires small { All Small slots.now }
+    requires small { AllByRecursion Small slots.now }
     ensures { list.new ≡ turns slots.now ++ drop (2 * length slots.now) list.old }
 {
     let mut at = 0;

@@ -1,7 +1,7 @@
 -- Slots that are apart: each tick is in one of them at the most, and a cycle has their lengths. Assumes nothing.
 use Rattle.std.proofs.Common.{◌≡◌, ℕ, zero, suc, ◌+◌, ◌-◌, ◌%◌, ◌<◌, ◌≤◌, Bool, true, false, ltb, leb, List, [], ◌∷◌, sum_by, sym, refl, ap, ◌∙◌, inl, inr, mod-lt, mod-eq_of_lt, add-one, arith}
 use native.Mathlib.Nat.{add-mod-mod, add-mod_right}
-use Rattle.std.specs.List.{AllByRecursion as All}
+use Rattle.std.specs.List.{AllByRecursion}
 use Rattle.std.proofs.lemmas.List.Sums.{sum_by-cons}
 use Rattle.std.proofs.lemmas.Bool.{ltb-true, lt-ltb, or_left, or_right, or_from, and_parts, leb-true, le-leb, and_from, cases_Bool, cases_lt}
 use Rattle.calculus.specs.Searches.{bit, count}
@@ -156,7 +156,7 @@ covered_added L [] v t d = chain_sum L 0 [] tt (omega arith) t d
 covered_added L (s ∷ ss) v t d = chain_sum L s.begin.0 (s ∷ ss) (chain_of L (s.begin.0 + L) (s ∷ ss) v) (omega arith) t d
 
 -- each slot of a chain fits
-chain_fit : (L b : ℕ) (ss : List Slot) → Chain L (b + L) ss → b ≤ next (b + L) ss → All (Fit L) ss
+chain_fit : (L b : ℕ) (ss : List Slot) → Chain L (b + L) ss → b ≤ next (b + L) ss → AllByRecursion (Fit L) ss
 unfolding next
 chain_fit L b [] c low = tt
 chain_fit L b (s ∷ ss) c low =
@@ -164,13 +164,13 @@ chain_fit L b (s ∷ ss) c low =
     ((c.0, c.1, omega arith), chain_fit L b ss c.3 (omega arith))
 
 -- each slot fits
-pub apart_fit : (L : ℕ) (ss : List Slot) → Apart L ss → All (Fit L) ss
+pub apart_fit : (L : ℕ) (ss : List Slot) → Apart L ss → AllByRecursion (Fit L) ss
 unfolding next
 apart_fit L [] v = tt
 apart_fit L (s ∷ ss) v = chain_fit L s.begin.0 (s ∷ ss) (chain_of L (s.begin.0 + L) (s ∷ ss) v) (omega arith)
 
 -- over a cycle these are the lengths
-added_cycle : (L : ℕ) (ss : List Slot) (t : ℕ) → All (Fit L) ss → added L ss t L ≡ lengths ss
+added_cycle : (L : ℕ) (ss : List Slot) (t : ℕ) → AllByRecursion (Fit L) ss → added L ss t L ≡ lengths ss
 unfolding added lengths
 added_cycle L [] t a = refl
 added_cycle L (s ∷ ss) t a = let b = sum_by-cons (λ (x : Slot). x.length.0) s ss in let c = added_cons L s ss t L in let e = one_cycle L s t a.0 in let ih = added_cycle L ss t a.1 in omega arith

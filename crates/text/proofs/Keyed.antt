@@ -1,7 +1,7 @@
 -- A line that begins with a key and an equals sign has that key before its first equals sign.
 use Rattle.std.proofs.Common.{◌≡◌, ℕ, suc, ◌+◌, ◌<◌, ◌≤◌, Bool, true, false, cond, ◌&&◌, eqb, ltb, List, [], ◌∷◌, ◌++◌, length, take, drop, Some, None, Ok, Err, codes, Option, sym, refl, ap, ◌∙◌, ⊎_elim, arith, rules}
 use Rattle.std.specs.Str.{bytes_eq}
-use Rattle.std.specs.List.{AllByRecursion as All}
+use Rattle.std.specs.List.{AllByRecursion}
 use Rattle.std.proofs.lemmas.Bool.{cases_Bool, eqb-true, ne_eqb, cond-true, cond-false, lt-ltb, le-ltb, cases_lt}
 use Rattle.faults.specs.declared.fault.LineFault.TheVariants.{Missing}
 use Rattle.faults.specs.declared.fault.LineFault.TheVariants as fault
@@ -39,7 +39,7 @@ cut_suc c x n k xs =
     ∙ (λ i. cond (less i) (cond (eqb x c && bytes_eq (take n xs) k) (Some (left i)) None) None)
 
 -- a key without an equals sign is in front exactly if it stands before the first one
-pub key_strip : (k xs : List ℕ) → All (λ c. c ≡ 61 → ⊥) k → strip (k ++ 61 ∷ []) xs ≡ cut_as k xs (at 61 xs)
+pub key_strip : (k xs : List ℕ) → AllByRecursion (λ c. c ≡ 61 → ⊥) k → strip (k ++ 61 ∷ []) xs ≡ cut_as k xs (at 61 xs)
 unfolding at
 key_strip [] [] h = refl
 key_strip [] (x ∷ xs) h =

@@ -1,6 +1,6 @@
 -- A text that is read is the text of the plan that is read: list by list, and then the whole.
 use Rattle.std.proofs.Common.{◌≡◌, ℕ, zero, suc, ◌+◌, ◌-◌, ◌≤◌, ◌&&◌, eqb, leb, List, [], ◌∷◌, ◌++◌, length, Ok, Result, sym, ap, ◌∙◌, subst, arith}
-use Rattle.std.specs.List.{flat_map, AllByRecursion as All}
+use Rattle.std.specs.List.{flat_map, AllByRecursion}
 use Rattle.std.proofs.ByRecursion.{All-get_or, All-push, All-weaker}
 use Rattle.std.proofs.lemmas.List.{append_assoc, append-nil, flat_map_more, length_push, nil_from_length}
 use Rattle.std.proofs.lemmas.Bool.{eqb-true, leb-true, and_parts}
@@ -48,24 +48,24 @@ abbrev GateFits : GateLine → Type 0
 GateFits g = (1 ≤ g.length.0) × (length g.gates ≡ classes)
 
 gate_step : (gs hs : List GateLine) (k : ℕ) (text : List ℕ) → next_gate gs k text ≡ Ok hs →
-    (flat_map gate_text gs ++ text ≡ flat_map gate_text hs ++ past 10 text) × (length hs ≡ length gs + 1) × (All GateFits gs → All GateFits hs)
+    (flat_map gate_text gs ++ text ≡ flat_map gate_text hs ++ past 10 text) × (length hs ≡ length gs + 1) × (AllByRecursion GateFits gs → AllByRecursion GateFits hs)
 gate_step gs hs k text e =
     let p = then_ok (gate_line k text) _ hs e in
     let b = gate_line_back k text p.0 p.1 in
     let more = ok_ok p.2 in (
       joined_on gate_text gs p.0 text (past 10 text) b.0 ∙ ap (λ l. flat_map gate_text l ++ past 10 text) more,
       ap length (sym more) ∙ length_push gs p.0,
-      λ h. subst (All GateFits) more (All-push GateFits gs p.0 h (b.1, b.2)),
+      λ h. subst (AllByRecursion GateFits) more (All-push GateFits gs p.0 h (b.1, b.2)),
     )
 
 gates_back : (cycle n : ℕ) (text : List ℕ) (gs : List GateLine) → gates_listed cycle n text ≡ Ok gs →
-    (text ≡ flat_map gate_text gs ++ skip n text) × (length gs ≡ n) × All GateFits gs × (total gs ≡ cycle)
+    (text ≡ flat_map gate_text gs ++ skip n text) × (length gs ≡ n) × AllByRecursion GateFits gs × (total gs ≡ cycle)
 unfolding gates_listed
 gates_back cycle n text gs e =
     let p = then_ok (within Line (each next_gate n 4 text [])) _ gs e in
     let q = cond_ok (eqb (total p.0) cycle) _ _ gs p.2 in
     let same = ok_ok q.1 in
-    let r = each_back next_gate (flat_map gate_text) (All GateFits) gate_step n 4 text [] gs (within_ok Line _ p.0 p.1 ∙ ap Ok same) in
+    let r = each_back next_gate (flat_map gate_text) (AllByRecursion GateFits) gate_step n 4 text [] gs (within_ok Line _ p.0 p.1 ∙ ap Ok same) in
     (r.0, let l = r.1 in omega arith, r.2 tt, ap total (sym same) ∙ eqb-true _ cycle q.0)
 
 -- class lines
@@ -73,20 +73,20 @@ abbrev SizesFit : ClassEntry → Type 0
 SizesFit c = Sized c.largest c.depth
 
 class_step : (cs ds : List ClassEntry) (k : ℕ) (text : List ℕ) → next_class cs k text ≡ Ok ds →
-    (class_texts cs ++ text ≡ class_texts ds ++ past 10 text) × (length ds ≡ length cs + 1) × (All SizesFit cs → All SizesFit ds)
+    (class_texts cs ++ text ≡ class_texts ds ++ past 10 text) × (length ds ≡ length cs + 1) × (AllByRecursion SizesFit cs → AllByRecursion SizesFit ds)
 class_step cs ds k text e =
     let p = then_ok (class_line k (7 - length cs) text) _ ds e in
     let b = class_line_back k (7 - length cs) text p.0 p.1 in
     let more = ok_ok p.2 in (
       ap (λ l. class_texts cs ++ l) b.0 ∙ sym (append_assoc (class_texts cs) (class_text (7 - length cs) p.0) (past 10 text)) ∙ ap (λ l. class_texts l ++ past 10 text) more,
       (let l = ap length more in omega arith),
-      λ h. subst (All SizesFit) more (b.1, h),
+      λ h. subst (AllByRecursion SizesFit) more (b.1, h),
     )
 
-classes_back : (k : ℕ) (text : List ℕ) (cs : List ClassEntry) → classes_listed k text ≡ Ok cs → (text ≡ class_texts cs ++ skip classes text) × (length cs ≡ classes) × All SizesFit cs
+classes_back : (k : ℕ) (text : List ℕ) (cs : List ClassEntry) → classes_listed k text ≡ Ok cs → (text ≡ class_texts cs ++ skip classes text) × (length cs ≡ classes) × AllByRecursion SizesFit cs
 unfolding classes_listed
 classes_back k text cs e =
-    let r = each_back next_class class_texts (All SizesFit) class_step classes k text [] cs e in
+    let r = each_back next_class class_texts (AllByRecursion SizesFit) class_step classes k text [] cs e in
     (r.0, let l = r.1 in omega arith, r.2 tt)
 
 -- flow lines: flows in order stay so with one more that may follow the last
@@ -139,7 +139,7 @@ header_back text h e =
     (a.0 ∙ ap (λ l. number_text key.Port p.0 ++ l) (b.0 ∙ ap (λ l. number_text key.Cycle q.0 ++ l) c.0), a.1, a.2, b.2, c.1, c.2)
 
 -- gate lines of at least a tick each, which add up to the cycle, are a gate list
-lawful : (gs : List GateLine) (cycle : ℕ) → All GateFits gs → total gs ≡ cycle → 1 ≤ length gs → length gs ≤ most_lines → cycle ≤ most_cycle → Lawful gs cycle
+lawful : (gs : List GateLine) (cycle : ℕ) → AllByRecursion GateFits gs → total gs ≡ cycle → 1 ≤ length gs → length gs ≤ most_lines → cycle ≤ most_cycle → Lawful gs cycle
 lawful gs cycle fit sum some few most = record { each = λ i h. (All-get_or GateFits gs i _ h fit).0; together = sum; some = some; few = few; most = most }
 
 abbrev contents_with : Header → List GateLine → List ClassEntry → List FlowEntry → Contents

@@ -1,6 +1,6 @@
 -- Each flow line that is written is read as the flow that it was written from.
 use Rattle.std.proofs.Common.{◌≡◌, ℕ, zero, suc, ◌<◌, ◌≤◌, true, cond, ◌||◌, eqb, ltb, List, [], ◌∷◌, ◌++◌, Ok, refl, ap, ◌∙◌, ⊎_elim, arith}
-use Rattle.std.specs.List.{AllByRecursion as All}
+use Rattle.std.specs.List.{AllByRecursion}
 use Rattle.std.proofs.lemmas.Bool.{cases_lt, ne_eqb, cond-true, cond-false, lt-ltb, le-leb, and_from, or_left, or_right}
 use Rattle.units.specs.Limits.{least_frame, most_frame, least_burst, most_burst, most_rate_ticks, most_period, most_jitter}
 use Rattle.envelope.specs.Ranges.{BucketRange}
@@ -18,7 +18,7 @@ use Rattle.writing.proofs.Lacking.{Lacks, before_join, past_join, numeral_field_
 use Rattle.writing.proofs.LinesForth.{then_goes, within_goes, next_line, due_line_lem, three, three_lack, three_count, second, third}
 
 -- no class has a larger frame than there is
-pub largest_most : (cs : List ClassEntry) → All (λ e. Sized e.largest e.depth) cs → (c : ℕ) → largest_of cs c ≤ most_frame
+pub largest_most : (cs : List ClassEntry) → AllByRecursion (λ e. Sized e.largest e.depth) cs → (c : ℕ) → largest_of cs c ≤ most_frame
 largest_most [] h c = omega arith
 largest_most (e ∷ cs) h zero = h.0.most
 largest_most (e ∷ cs) h (suc c) = largest_most cs h.1 c

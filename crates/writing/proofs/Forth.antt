@@ -1,6 +1,6 @@
 -- The text of every plan is read as that plan: the lists of lines one after another, and then all the lines.
 use Rattle.std.proofs.Common.{◌≡◌, ℕ, suc, ◌+◌, ◌-◌, ◌<◌, ◌≤◌, List, [], ◌∷◌, ◌++◌, length, Ok, Result, sym, refl, ap, ◌∙◌, arith}
-use Rattle.std.specs.List.{flat_map, AllByRecursion as All}
+use Rattle.std.specs.List.{flat_map, AllByRecursion}
 use Rattle.std.proofs.lemmas.List.{append_assoc, append-nil}
 use Rattle.std.proofs.lemmas.Bool.{eq-eqb, cond-true, le-leb, and_from}
 use Rattle.units.specs.Limits.{classes, most_text, most_port, most_lines, most_cycle, most_frame, most_flows}
@@ -33,7 +33,7 @@ skip_step n text more p = ap (skip n) p
 
 -- gate lines are read behind those before them, and what is left past them is the rest
 gates_read : (k : ℕ) (gs rs : List GateLine) (rest : List ℕ) →
-    ((i : ℕ) → i < length rs → (1 ≤ (line rs i).length.0) × ((line rs i).length.0 ≤ most_cycle)) → All (λ g. length g.gates ≡ classes) rs →
+    ((i : ℕ) → i < length rs → (1 ≤ (line rs i).length.0) × ((line rs i).length.0 ≤ most_cycle)) → AllByRecursion (λ g. length g.gates ≡ classes) rs →
     (each next_gate (length rs) k (flat_map gate_text rs ++ rest) gs ≡ Ok (gs ++ rs)) × (skip (length rs) (flat_map gate_text rs ++ rest) ≡ rest)
 unfolding each skip
 gates_read k gs [] rest b h = (ap Ok (sym (append-nil gs)), refl)
@@ -47,7 +47,7 @@ gates_read k gs (g ∷ rs) rest b h =
     (each_step next_gate (length rs) k _ more gs (gs ++ g ∷ []) (then_goes _ is refl) next ∙ r.0 ∙ ap Ok (append_assoc gs (g ∷ []) rs), skip_step (length rs) _ more next ∙ r.1)
 
 -- class lines are read in front of each other, so that the last, that of the lowest class, stands first; then n lines more
-classes_read : (es : List ClassEntry) (n k : ℕ) (rest : List ℕ) → All (λ e. Sized e.largest e.depth) es →
+classes_read : (es : List ClassEntry) (n k : ℕ) (rest : List ℕ) → AllByRecursion (λ e. Sized e.largest e.depth) es →
     (each next_class (length es + n) k (class_texts es ++ rest) [] ≡ each next_class n (k + length es) rest es) × (skip (length es + n) (class_texts es ++ rest) ≡ skip n rest)
 classes_read [] n k rest h =
     let a : 0 + n ≡ n = omega arith in

@@ -1,6 +1,6 @@
 -- How long the text of a plan can be: with seven digits for every number, it stays below the most bytes of a plan text.
 use Rattle.std.proofs.Common.{◌≡◌, ℕ, ◌+◌, ◌-◌, ◌*◌, ◌<◌, ◌≤◌, List, [], ◌∷◌, ◌++◌, reverse, length, decimal, arith}
-use Rattle.std.specs.List.{flat_map, AllByRecursion as All}
+use Rattle.std.specs.List.{flat_map, AllByRecursion}
 use Rattle.std.proofs.lemmas.Fmt.{length-decimal-le}
 use Rattle.std.proofs.lemmas.List.{length-append, length-map, length-reverse}
 use Rattle.units.specs.Limits.{most_text, classes, most_cycle, most_frame}
@@ -54,7 +54,7 @@ letters_most : (gs : List Gate) → length gs ≡ classes → length (letters gs
 letters_most gs e = let a = length-map (reverse gs) letter in let b = length-reverse gs in omega arith
 
 -- the gate lines
-gates_most : (gs : List GateLine) → All (λ g. length g.gates ≡ classes) gs → total gs ≤ most_cycle → length (flat_map gate_text gs) ≤ 23 * length gs
+gates_most : (gs : List GateLine) → AllByRecursion (λ g. length g.gates ≡ classes) gs → total gs ≤ most_cycle → length (flat_map gate_text gs) ≤ 23 * length gs
 unfolding total
 gates_most [] h t = omega arith
 gates_most (g ∷ gs) h t =
@@ -64,7 +64,7 @@ gates_most (g ∷ gs) h t =
     omega arith
 
 -- the class lines
-classes_most : (es : List ClassEntry) → All (λ e. Sized e.largest e.depth) es → length (class_texts es) ≤ 30 * length es
+classes_most : (es : List ClassEntry) → AllByRecursion (λ e. Sized e.largest e.depth) es → length (class_texts es) ≤ 30 * length es
 classes_most [] h = omega arith
 classes_most (e ∷ es) h =
     let s = h.0 in
@@ -89,7 +89,7 @@ flow_most m (periodic bytes period jitter) h r =
     omega arith
 
 -- the flow lines
-flow_lines_most : (cs : List ClassEntry) (p : Place) (fs : List FlowEntry) → All (λ e. Sized e.largest e.depth) cs → p.class ≤ 7 → Ordered cs p fs → length (flat_map flow_text fs) ≤ 40 * length fs
+flow_lines_most : (cs : List ClassEntry) (p : Place) (fs : List FlowEntry) → AllByRecursion (λ e. Sized e.largest e.depth) cs → p.class ≤ 7 → Ordered cs p fs → length (flat_map flow_text fs) ≤ 40 * length fs
 flow_lines_most cs p [] all h o = omega arith
 flow_lines_most cs p (f ∷ fs) all h o =
     let low = o.0.falls in

@@ -1,6 +1,6 @@
 -- The text of a plan, and the plans that have one. Assumes nothing.
 use Rattle.std.specs.Prelude.{◌≡◌, ℕ, ◌-◌, ◌≤◌, true, List, [], ◌∷◌, ◌++◌, map, reverse, length, decimal}
-use Rattle.std.specs.List.{flat_map, AllByRecursion as All}
+use Rattle.std.specs.List.{flat_map, AllByRecursion}
 use Rattle.units.specs.Limits.{classes, most_port, least_frame, most_flows, most_period, most_jitter}
 use Rattle.envelope.specs.Ranges.{BucketRange}
 use Rattle.gates.specs.declared.gate_line.Gate.{Gate}
@@ -88,8 +88,8 @@ pub record Sound (s : Contents) : Type 0 where
   pub port_low : 1 ≤ s.port
   pub port_high : s.port ≤ most_port
   pub lines : Lawful s.gates s.cycle
-  pub letters_all : All (λ g. length g.gates ≡ classes) s.gates
+  pub letters_all : AllByRecursion (λ g. length g.gates ≡ classes) s.gates
   pub classes_all : length s.classes ≡ classes
-  pub sizes : All (λ e. Sized e.largest e.depth) s.classes
+  pub sizes : AllByRecursion (λ e. Sized e.largest e.depth) s.classes
   pub flows_few : length s.flows ≤ most_flows
   pub flows : Ordered s.classes first s.flows

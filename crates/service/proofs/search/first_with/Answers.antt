@@ -1,5 +1,5 @@
 use Rattle.std.proofs.Common.{◌≡◌, ℕ, ◌+◌, ◌-◌, ◌<◌, ◌≤◌, max, List, length, get_or, subst, arith, take_all}
-use Rattle.std.specs.List.{AllByRecursion as All}
+use Rattle.std.specs.List.{AllByRecursion}
 use Rattle.calculus.specs.Searches.{count}
 use Rattle.calculus.proofs.Counts.{count_grows}
 use Rattle.sure_ticks.specs.declared.slot.Slot.{Slot}
@@ -93,5 +93,5 @@ pub returns : goal.returns
 returns c =
     let L = c.args.cycle in
     let ss = c.args.slots.now in
-    let P : List Slot → Type 0 = λ xs. All (λ s. c.args.ticks ≤ count (covered L ss) (end_of s) c.loop-j.far) xs in
+    let P : List Slot → Type 0 = λ xs. AllByRecursion (λ s. c.args.ticks ≤ count (covered L ss) (end_of s) c.loop-j.far) xs in
     (least_above L c.requires.ready.some ss c.requires.ready.apart (some_slot ss c.args.ticks c.requires.some c.requires.there) c.loop-j.far c.args.ticks (subst P (take_all _ _ c.loop-j-test.false) c.loop-j.invariant.2), c.loop-j.invariant.3)

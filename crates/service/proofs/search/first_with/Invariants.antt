@@ -1,5 +1,5 @@
 use Rattle.std.proofs.Common.{ℕ, ◌+◌, ◌<◌, ◌≤◌, length, take}
-use Rattle.std.specs.List.{AllByRecursion as All}
+use Rattle.std.specs.List.{AllByRecursion}
 use Rattle.calculus.specs.Searches.{count}
 use Rattle.sure_ticks.specs.Sure.{covered}
 use Rattle.curve.specs.Curve.{least_covered}
@@ -12,5 +12,5 @@ abbrev pub invariant-loop-j : goal.invariant-loop-j
 invariant-loop-j l =
     (l.k + 1 < length l.marks)
     × (before_of l.marks l.k < before_of l.marks l.j + l.ticks)
-    × All (λ s. l.ticks ≤ count (covered l.cycle l.slots) (end_of s) l.far) (take l.j l.slots)
+    × AllByRecursion (λ s. l.ticks ≤ count (covered l.cycle l.slots) (end_of s) l.far) (take l.j l.slots)
     × ((x : ℕ) → l.ticks ≤ least_covered l.cycle l.slots x → l.far ≤ x)

@@ -1,5 +1,5 @@
 use Rattle.std.proofs.Common.{◌≡◌, ◌+◌, ◌-◌, ◌≤◌, min, List, get_or, sym, ◌∙◌, subst, arith, take_all}
-use Rattle.std.specs.List.{AllByRecursion as All}
+use Rattle.std.specs.List.{AllByRecursion}
 use Rattle.calculus.specs.Searches.{count}
 use Rattle.sure_ticks.specs.declared.slot.Slot.{Slot}
 use Rattle.sure_ticks.specs.Slots.{slot}
@@ -80,6 +80,6 @@ returns c =
     let L = c.args.cycle in
     let ss = c.args.slots.now in
     let best = c.loop-j.best in
-    let P : List Slot → Type 0 = λ xs. All (λ s. best ≤ count (covered L ss) (end_of s) c.args.window) xs in
+    let P : List Slot → Type 0 = λ xs. AllByRecursion (λ s. best ≤ count (covered L ss) (end_of s) c.args.window) xs in
     let a = least_above L c.requires.ready.some ss c.requires.ready.apart c.if-slots-eq0.false c.args.window best (subst P (take_all _ _ c.loop-j-test.false) c.loop-j.invariant.1) in
     omega (arith, c.loop-j.invariant.0)

@@ -1,5 +1,5 @@
 use Rattle.std.proofs.Common.{◌≡◌, [], length, vec_items, sym, ap, ◌∙◌, subst, arith}
-use Rattle.std.specs.List.{AllByRecursion as All}
+use Rattle.std.specs.List.{AllByRecursion}
 use Rattle.std.proofs.ByRecursion.{All-push}
 use Rattle.std.proofs.lemmas.Result.{err_from_is_err_and}
 use Rattle.reader.specs.Entries.{next_gate}
@@ -12,7 +12,7 @@ loop-i-init c = (
   each_start next_gate c.args.count 0 _ _ _ [] c.requires.empty,
   skip_start c.args.count _,
   omega arith,
-  subst (All LengthFits) (sym c.requires.empty) tt,
+  subst (AllByRecursion LengthFits) (sym c.requires.empty) tt,
   c.args.lines.ok.0 ∙ ap length c.requires.empty,
   c.requires.room,
 )
@@ -44,7 +44,7 @@ loop-i-preserved c =
       rw (h.line, h.rest, more) (sym on ∙ c.loop-i.invariant.0),
       rw h.rest (sym past ∙ c.loop-i.invariant.1),
       omega (arith, h.line, c.loop-i.invariant.2),
-      subst (All LengthFits) (sym more) (All-push LengthFits _ _ c.loop-i.invariant.3 h.bound),
+      subst (AllByRecursion LengthFits) (sym more) (All-push LengthFits _ _ c.loop-i.invariant.3 h.bound),
       omega (arith, c.push_reserved.ensures.len, c.loop-i.invariant.4),
       omega (arith, c.push_reserved.ensures.capacity, c.loop-i.invariant.5),
     )

@@ -1,5 +1,5 @@
 use Rattle.std.proofs.Common.{◌≡◌, ◌+◌, ◌-◌, ◌≤◌, [], vec_items, vec_len, vec_capacity}
-use Rattle.std.specs.List.{AllByRecursion as All}
+use Rattle.std.specs.List.{AllByRecursion}
 use Rattle.units.specs.Limits.{most_lines}
 use Rattle.reader.specs.Chain.{each, skip}
 use Rattle.reader.specs.Entries.{next_gate}
@@ -12,6 +12,6 @@ invariant-loop-i l =
     (each next_gate (l.count - l.i) l.self.line l.self.rest.now (vec_items l.lines) ≡ each next_gate l.count l.initial.self.line l.initial.self.rest.now [])
     × (skip (l.count - l.i) l.self.rest.now ≡ skip l.count l.initial.self.rest.now)
     × (l.self.line ≡ l.initial.self.line + l.i)
-    × All LengthFits (vec_items l.lines)
+    × AllByRecursion LengthFits (vec_items l.lines)
     × (vec_len l.lines ≡ l.i)
     × (most_lines ≤ vec_capacity l.lines)
