@@ -1,4 +1,5 @@
-// report: reads a plan on standard input and prints its report, or why it is refused. A refusal ends the process with status 1.
+// figures: reads a plan on standard input and prints its report with the figures of each class, or why it is refused. A refusal
+// ends the process with status 1.
 #![tactic(auto)]
 
 ghost use Rattle.std.specs.Prelude.{◌≡◌, suc, ◌-◌, ◌<◌, ◌≤◌, ◌⊎◌, ◌++◌, length, take, Ok, Err, vec_len, MatchResult, OnOk};

@@ -13,7 +13,7 @@ use gates::GateLine;
 use std::alloc::Global;
 use units::limits::{MAX_FLOWS, MAX_GATE_LINES, MAX_TEXT};
 
-// What the text says, or the first fault in it. All memory is taken before the first byte is read, so want of memory is map_ok apart.
+// What the text says, or the first fault in it. All memory is taken before the first byte is read, so want of memory is kept apart.
 pub fn parse(heap: Global, text: &[u8]) -> Result<Parsed, PlanFault>
     ensures { MatchResult result (λ p. Ok (contents_of p) ≡ read_plan text.now) (λ e. (e ≡ Memory) ⊎ (Err e ≡ read_plan text.now)) }
 {

@@ -25,7 +25,8 @@ pub bounds-marks-j-in-loop-j : goal.bounds-marks-j-in-loop-j
 bounds-marks-j-in-loop-j c = let n = marks_size c.args.cycle c.args.slots.now c.args.marks.now c.requires.ready in omega arith
 
 pub overflow_sub-end : goal.overflow_sub-end
-overflow_sub-end c = (slot_marks c.args.cycle c.args.slots.now c.args.marks.now c.requires.ready c.loop-j.j c.loop-j-test.true).0
+overflow_sub-end c =
+    let t = slot_marks c.args.cycle c.args.slots.now c.args.marks.now c.requires.ready c.loop-j.j c.loop-j-test.true in omega (arith, t.0)
 
 pub overflow_add-end : goal.overflow_add-end
 overflow_add-end c =
