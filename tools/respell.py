@@ -4,7 +4,7 @@
 usage: python3 tools/respell.py        at the top of the repository, once, after the kit's port.py
 
 Turned are the names that specs/ and proofs/ define, the fields of records there, and what a let binds: wherever they stand in
-.antt files, in the clauses of .rt files, in must-fail edits, and between backticks in .md files. Names that Rattle makes (goals,
+.antt files, .rt files and must-fail edits, and between backticks in .md files. Names that Rattle makes (goals,
 invariants, the steps of a proof) stay, as do functions of src/.
 """
 import os
