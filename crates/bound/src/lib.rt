@@ -8,8 +8,7 @@ mod search;
 pub use search::bound_over;
 
 // The definitions of delay and held bytes are the greatest wait and the most unsent bytes up to the least span that closes.
-pub fn bounds_mean_what_they_say() -> u8
+pub fn bounds_mean_what_they_say()
     ensures { BoundsMean }
 {
-    0
 }

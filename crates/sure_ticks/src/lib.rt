@@ -9,10 +9,8 @@ pub use slot::Slot;
 
 // Stands for three theorems. The slots of a class rise and share no tick; their lengths add up to the sure ticks of a cycle; and
 // the sure ticks are those at which a waiting frame can start, whatever came before.
-pub fn slots_hold_the_sure_ticks() -> u8
+pub fn slots_hold_the_sure_ticks()
     ensures apart { SlotsApart }
     ensures added { SureLengths }
     ensures startable { SureStartable }
-{
-    0
-}
+{}

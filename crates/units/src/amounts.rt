@@ -5,11 +5,11 @@ use std::fmt;
 use std::ops::Add;
 
 // A number of ticks. A tick is the time of one byte on the wire.
-#[derive(Clone, Copy, PartialEq, Eq, PartialOrd, Ord, Debug)]
+#[derive(Clone, Copy, PartialEq, Eq, PartialOrd, Ord, Default, Debug)]
 pub struct Ticks(pub u64);
 
 // A number of bytes.
-#[derive(Clone, Copy, PartialEq, Eq, PartialOrd, Ord, Debug)]
+#[derive(Clone, Copy, PartialEq, Eq, PartialOrd, Ord, Default, Debug)]
 pub struct Bytes(pub u64);
 
 impl Add<Ticks> for Ticks {

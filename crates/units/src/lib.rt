@@ -2,8 +2,10 @@
 #![tactic(auto)]
 
 mod amounts;
+mod class;
 pub mod limits;
 mod refusal;
 
 pub use amounts::{Bytes, Ticks};
+pub use class::Class;
 pub use refusal::Refusal;

@@ -5,49 +5,49 @@ ghost use Rattle.units.specs.Refusals.{refusal_number};
 #[derive(Clone, Copy, PartialEq, Eq, Debug)]
 pub enum Refusal {
     // The plan text is empty or longer than 8,192 bytes.
-    TextSize,
+    TextSize = 1,
     // The line that is due is missing, has no equals sign or is not ended by byte 10.
-    LineMissing,
+    LineMissing = 2,
     // The line's key is not the one that is due.
-    WrongKey,
+    WrongKey = 3,
     // The line has a wrong count of fields, or a field a wrong form.
-    FieldForm,
+    FieldForm = 4,
     // A number is out of its range.
-    FieldRange,
+    FieldRange = 5,
     // The lengths of the gate lines do not add up to the cycle.
-    CycleSum,
+    CycleSum = 6,
     // A class or flow line is out of order, or a flow's class sends nothing.
-    LineOrder,
+    LineOrder = 7,
     // There is more text after the last line.
-    MoreText,
+    MoreText = 8,
     // There is no such class: the number is above 7.
-    NoClass,
+    NoClass = 11,
     // The slot list has fewer than 64 numbers.
-    SlotSpace,
+    SlotSpace = 12,
     // The span of a curve is above 4,000,000 ticks.
-    CurveSpan,
+    CurveSpan = 13,
     // The starting tick is not below the cycle.
-    StartTick,
+    StartTick = 21,
     // The port has run all its ticks.
-    PortLife,
+    PortLife = 22,
     // The offered frame is under 64 bytes or over the largest frame of its class.
-    FrameSize,
+    FrameSize = 23,
     // The unsent bytes and the frame together pass the depth of the class.
-    QueueFull,
+    QueueFull = 24,
     // The space for the report is under 1,024 bytes.
-    ReportSpace,
+    ReportSpace = 31,
     // The class has no flow line.
-    NoFlow,
+    NoFlow = 41,
     // The class has no sure tick.
-    NoSureTick,
+    NoSureTick = 42,
     // The class has no closing span.
-    NoClosingSpan,
+    NoClosingSpan = 43,
     // The span is above the reach of the envelope.
-    BeyondReach,
+    BeyondReach = 51,
     // A flow is made with numbers out of their ranges.
-    FlowRange,
+    FlowRange = 52,
     // There is not enough memory. Its number lies outside those that a plan or a call can cause.
-    Memory,
+    Memory = 99,
 }
 
 impl Refusal {
@@ -55,29 +55,6 @@ impl Refusal {
     pub fn number(self) -> u8
         ensures { result ≡ refusal_number self }
     {
-        match self {
-            Refusal::TextSize => 1,
-            Refusal::LineMissing => 2,
-            Refusal::WrongKey => 3,
-            Refusal::FieldForm => 4,
-            Refusal::FieldRange => 5,
-            Refusal::CycleSum => 6,
-            Refusal::LineOrder => 7,
-            Refusal::MoreText => 8,
-            Refusal::NoClass => 11,
-            Refusal::SlotSpace => 12,
-            Refusal::CurveSpan => 13,
-            Refusal::StartTick => 21,
-            Refusal::PortLife => 22,
-            Refusal::FrameSize => 23,
-            Refusal::QueueFull => 24,
-            Refusal::ReportSpace => 31,
-            Refusal::NoFlow => 41,
-            Refusal::NoSureTick => 42,
-            Refusal::NoClosingSpan => 43,
-            Refusal::BeyondReach => 51,
-            Refusal::FlowRange => 52,
-            Refusal::Memory => 99,
-        }
+        self as u8
     }
 }

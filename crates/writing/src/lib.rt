@@ -5,10 +5,9 @@ ghost use Rattle.writing.specs.Inverse.{OnlyTexts, EveryPlan, ShortTexts};
 
 // Stands for three theorems: a text that is read is the text of the plan that is read, the text of a plan is read as that plan,
 // and no plan has a text that is too long.
-pub fn reading_inverts_writing() -> u8
+pub fn reading_inverts_writing()
     ensures only { OnlyTexts }
     ensures every { EveryPlan }
     ensures short { ShortTexts }
 {
-    0
 }
