@@ -1,10 +1,10 @@
-use Rattle.std.proofs.Common.{map, vec_items, ap, ◌∙◌}
+use Rattle.std.proofs.Common.{map, vec_items, refl, ap, ◌∙◌}
 use Rattle.std.proofs.lemmas.List.{take_all}
 use Rattle.reader.specs.Views.{entry_of}
 use Rattle.plan.specs.Arranged.{flows_of, bucket_kind, periodic_kind}
 use Rattle.plan.proofs.Grouping.{held_none, held_same, bucket_more, periodic_more, other_more}
-use Rattle.plan.proofs.class_flows.class_flows.Goals as goal
-use Rattle.plan.proofs.class_flows.class_flows.Goals.{then-line-class+in-Bucket+in_ok-push-in-Bucket, then-line-class+in-Periodic+in_ok-push-in-Periodic, else-line-class}
+use Rattle.plan.proofs.class_plan.class_plan.Goals as goal
+use Rattle.plan.proofs.class_plan.class_plan.Goals.{then-line-class+in-Bucket+in_ok-push-in-Bucket, then-line-class+in-Periodic+in_ok-push-in-Periodic, else-line-class}
 
 pub loop-line-init : goal.loop-line-init
 loop-line-init c = held_none _ _ _ c.new-buckets.ensures.items c.new-periodics.ensures.items
@@ -30,6 +30,7 @@ pub returns : goal.returns
 returns c =
     let all = take_all c.loop-line.line-index c.args.flows.now c.loop-line-test.false in
     record {
+      sizes = refl;
       buckets = c.loop-line.invariant.0 ∙ ap (λ ls. flows_of c.args.class bucket_kind (map entry_of ls)) all;
       periodics = c.loop-line.invariant.1 ∙ ap (λ ls. flows_of c.args.class periodic_kind (map entry_of ls)) all;
     }
