@@ -1,7 +1,7 @@
 -- The flows of a plan by class: how the lists are filled, and what each of them holds.
 use Rattle.std.proofs.Common.{◌≡◌, ℕ, zero, suc, ◌+◌, ◌-◌, ◌<◌, ◌≤◌, true, false, ◌&&◌, eqb, List, [], ◌∷◌, ◌++◌, map, reverse, length, get_or, take, drop, vec_items, filter, sym, refl, ap, ◌∙◌, ⊎_elim, arith}
 use Rattle.std.proofs.lemmas.List.Elements.{filter-append}
-use Rattle.std.proofs.lemmas.List.{append_assoc, append-nil, map-append, length-map, reverse-append, take_more}
+use Rattle.std.proofs.lemmas.List.{append_assoc, append-nil, map-append, reverse-append, get_or-reverse, get_or-map, length-map, length-reverse, take_more}
 use Rattle.std.proofs.Math.Seq.{drop-cons}
 use Rattle.std.proofs.lemmas.Bool.{cases_lt, eq-eqb, ne_eqb, and_left, cond-true, cond-false}
 use Rattle.envelope.specs.declared.bucket.Bucket.{Bucket}
@@ -113,14 +113,13 @@ module _ (n : ℕ) (es : List FlowEntry) (ks : List ClassPlan) (k : ClassPlan) (
       ∙ ap (λ xs. entries_down 7 ks ++ xs) ((λ j. (b j ++ p j) ++ groups (n - 1) es) ∙ ap (λ m. groups m es) (sym s))
 
   -- and its sizes before theirs
-  pub sizes_more : (ts : List TrafficClass) → length ts ≡ 8 → k.sizes ≡ get_or ts (n - 1) k.sizes → sizes_up ks ≡ drop n (map sizes_of ts) → sizes_up (ks ++ k ∷ []) ≡ drop (n - 1) (map sizes_of ts)
+  pub sizes_more : (ts : List TrafficClass) → length ts ≡ 8 → k.sizes ≡ get_or ts (n - 1) k.sizes → sizes_up ks ≡ drop n ts → sizes_up (ks ++ k ∷ []) ≡ drop (n - 1) ts
   sizes_more ts eight is h =
       let s : n ≡ suc (n - 1) = omega arith in
-      let m : length (map sizes_of ts) ≡ length ts = length-map ts sizes_of in
-      ap reverse (map-append (λ (j : ClassPlan). sizes_of j.sizes) ks (k ∷ []))
-      ∙ reverse-append (map (λ (j : ClassPlan). sizes_of j.sizes) ks) (sizes_of k.sizes ∷ [])
-      ∙ (λ i. sizes_at ts (n - 1) k.sizes (omega arith) is i ∷ (h ∙ ap (λ i. drop i (map sizes_of ts)) s) i)
-      ∙ sym (drop-cons (map sizes_of ts) (n - 1) silent (omega arith))
+      ap reverse (map-append (λ (j : ClassPlan). j.sizes) ks (k ∷ []))
+      ∙ reverse-append (map (λ (j : ClassPlan). j.sizes) ks) (k.sizes ∷ [])
+      ∙ (λ i. is i ∷ (h ∙ ap (λ i. drop i ts) s) i)
+      ∙ sym (drop-cons ts (n - 1) k.sizes (omega arith))
 
 -- no class left
 pub groups_end : (n : ℕ) (es xs : List FlowEntry) → n ≡ 0 → xs ++ groups n es ≡ groups 8 es → xs ≡ groups 8 es
@@ -223,3 +222,13 @@ class_entries k c d (g ∷ fs) f le n at =
     ∙ sym (flows_append c k (entries_in c g) (entries_down (c - 1) fs) ∙ (λ i. own_entries c k g i ++ rest_none k c fs m i) ∙ append-nil (in_class c k g))
     ∙ ap (λ j. flows_of c k (entries_down j (g ∷ fs))) e)
     (cases_lt c d)
+
+-- the place of the class c holds its sizes
+pub class_sizes : (ks : List ClassPlan) (c : ℕ) (k : ClassPlan) → length ks ≡ 8 → c ≤ 7 → k ≡ get_or ks (7 - c) k → sizes_of k.sizes ≡ get_or (map sizes_of (sizes_up ks)) c silent
+class_sizes ks c k eight low is =
+    let ts = map (λ (j : ClassPlan). j.sizes) ks in
+    let n : length ts ≡ length ks = length-map ks (λ (j : ClassPlan). j.sizes) in
+    let m : length (reverse ts) ≡ length ts = length-reverse ts in
+    let d : length ts - 1 - c ≡ 7 - c = omega arith in
+    sizes_at (reverse ts) c k.sizes (omega arith)
+    (ap (λ (j : ClassPlan). j.sizes) is ∙ sym (get_or-map (λ (j : ClassPlan). j.sizes) ks (7 - c) k k.sizes (omega arith)) ∙ ap (λ i. get_or ts i k.sizes) (sym d) ∙ sym (get_or-reverse ts c k.sizes (omega arith)))

@@ -2,8 +2,9 @@
 use Rattle.std.specs.Prelude.{ℕ, ◌-◌, List, [], ◌∷◌, ◌++◌, map, reverse, vec_items}
 use Rattle.envelope.specs.declared.bucket.Bucket.{Bucket}
 use Rattle.envelope.specs.declared.periodic.Periodic.{Periodic}
-use Rattle.reader.specs.Contents.{FlowEntry, ClassEntry}
-use Rattle.reader.specs.Views.{bucket_of, periodic_of, sizes_of}
+use Rattle.gates.specs.declared.traffic_class.TrafficClass.{TrafficClass}
+use Rattle.reader.specs.Contents.{FlowEntry}
+use Rattle.reader.specs.Views.{bucket_of, periodic_of}
 use Rattle.plan.specs.declared.class_plan.ClassPlan.{ClassPlan}
 
 -- a bucket as a flow of the class c
@@ -32,5 +33,5 @@ entries_down c [] = []
 entries_down c (k ∷ ks) = entries_in c k ++ entries_down (c - 1) ks
 
 -- the sizes of the classes from class 0 up
-abbrev pub sizes_up : List ClassPlan → List ClassEntry
-sizes_up ks = reverse (map (λ k. sizes_of k.sizes) ks)
+abbrev pub sizes_up : List ClassPlan → List TrafficClass
+sizes_up ks = reverse (map (λ k. k.sizes) ks)

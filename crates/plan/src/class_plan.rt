@@ -1,6 +1,6 @@
 // What a plan says of one class.
 ghost use Rattle.std.specs.Prelude.{◌≡◌, ◌-◌, map, IfOk, vec_len};
-ghost use Rattle.reader.specs.Views.{entry_of, sizes_of};
+ghost use Rattle.reader.specs.Views.{entry_of};
 ghost use Rattle.plan.specs.Arranged.{flows_of, bucket_kind, periodic_kind, groups};
 ghost use Rattle.plan.specs.ByClass.{bucket_entries, periodic_entries, entries_down, sizes_up};
 
@@ -23,7 +23,7 @@ pub(crate) fn arrange(
     sizes: &[TrafficClass; 8],
     flows: &[FlowLine],
 ) -> Result<Vec<ClassPlan>, AllocError>
-    ensures sizes { IfOk result (λ v. sizes_up v.items ≡ map sizes_of sizes.now) }
+    ensures sizes { IfOk result (λ v. sizes_up v.items ≡ sizes.now) }
     ensures flows { IfOk result (λ v. (vec_len v ≡ 8) × (entries_down 7 v.items ≡ groups 8 (map entry_of flows.now))) }
 {
     let mut classes = Vec::new(heap);

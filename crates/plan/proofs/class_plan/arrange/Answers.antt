@@ -1,5 +1,5 @@
 use Rattle.std.proofs.Common.{◌≡◌, ◌-◌, ◌++◌, map, get_or, drop, vec_items, sym, ap, ◌∙◌, arith}
-use Rattle.reader.specs.Views.{entry_of, sizes_of}
+use Rattle.reader.specs.Views.{entry_of}
 use Rattle.plan.specs.Arranged.{groups}
 use Rattle.plan.specs.ByClass.{entries_down, sizes_up}
 use Rattle.plan.proofs.Grouping.{groups_more, sizes_more, groups_end}
@@ -26,6 +26,6 @@ returns c =
     let so = c.loop-class.invariant in
     let z : c.loop-class.class ≡ 0 = omega arith in
     record {
-      sizes = so.sizes ∙ ap (λ n. drop n (map sizes_of c.args.sizes.now)) z;
+      sizes = so.sizes ∙ ap (λ n. drop n c.args.sizes.now) z;
       flows = (omega (arith, so.so_far), groups_end c.loop-class.class (map entry_of c.args.flows.now) _ z so.flows);
     }

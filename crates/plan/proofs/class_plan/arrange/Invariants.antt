@@ -1,5 +1,5 @@
 use Rattle.std.proofs.Common.{◌≡◌, ◌-◌, ◌++◌, map, drop, vec_items, vec_len}
-use Rattle.reader.specs.Views.{entry_of, sizes_of}
+use Rattle.reader.specs.Views.{entry_of}
 use Rattle.plan.specs.Arranged.{groups}
 use Rattle.plan.specs.ByClass.{entries_down, sizes_up}
 use Rattle.plan.proofs.class_plan.arrange.Given as goal
@@ -8,6 +8,6 @@ use Rattle.plan.proofs.class_plan.arrange.Given as goal
 abbrev pub invariant-loop-class : goal.invariant-loop-class
 invariant-loop-class l = record {
   flows : entries_down 7 (vec_items l.classes) ++ groups l.class (map entry_of l.flows) ≡ groups 8 (map entry_of l.flows);
-  sizes : sizes_up (vec_items l.classes) ≡ drop l.class (map sizes_of l.sizes);
+  sizes : sizes_up (vec_items l.classes) ≡ drop l.class l.sizes;
   so_far : vec_len l.classes ≡ 8 - l.class;
 }
