@@ -1,9 +1,8 @@
 -- Within their reach no bucket and no periodic flow has too many bytes to tell. Assumes nothing.
-use Rattle.std.proofs.Common.{◌≡◌, ℕ, ◌+◌, ◌-◌, ◌*◌, ◌/◌, ◌≤◌, Ok, mul-le-mul_right, mul-le-mul, div-le_self, arith}
+use Rattle.std.proofs.Common.{◌≡◌, ℕ, ◌+◌, ◌-◌, ◌*◌, ◌/◌, ◌≤◌, Some, Ok, mul-le-mul_right, mul-le-mul, div-le_self, arith}
 use native.Mathlib.Nat.{div-le_of_le-mul}
 use Rattle.std.proofs.lemmas.Bool.{le-leb}
 use Rattle.units.specs.Limits.{most_burst, most_frame, most_jitter, most_period, flow_reach, most_load}
-use Rattle.envelope.specs.declared.load.Load.TheVariants.{Is}
 use Rattle.envelope.specs.Kinds.{ceiling}
 use Rattle.envelope.specs.Answers.{answer}
 
@@ -22,5 +21,5 @@ periodic_small bytes period jitter d hb hj pos hp hd =
     omega arith
 
 -- a query within the reach that comes to n, no more than 2^40
-pub answer_is : (reach : ℕ) (alpha : ℕ → ℕ) (span n : ℕ) → span ≤ reach → n ≤ most_load → alpha span ≡ n → Ok (Is (record { 0 = n })) ≡ answer reach alpha span
+pub answer_is : (reach : ℕ) (alpha : ℕ → ℕ) (span n : ℕ) → span ≤ reach → n ≤ most_load → alpha span ≡ n → Ok (Some (record { 0 = n })) ≡ answer reach alpha span
 answer_is reach alpha span n within small is = rw is (rw (le-leb span reach within, le-leb n (most_load) small))

@@ -1,12 +1,12 @@
 -- What a row of envelopes comes to, one after another. Assumes nothing.
-use Rattle.std.proofs.Common.{◌≡◌, ℕ, zero, suc, ◌+◌, ◌<◌, ◌≤◌, min, List, [], ◌∷◌, length, get_or, take, Ok, Err, fold, sym, ap, ◌∙◌, ⊎_elim, arith, take_all}
+use Rattle.std.proofs.Common.{◌≡◌, ℕ, zero, suc, ◌+◌, ◌<◌, ◌≤◌, min, List, [], ◌∷◌, length, get_or, take, Option, Ok, Err, fold, sym, ap, ◌∙◌, ⊎_elim, arith, take_all}
 use Rattle.std.proofs.lemmas.Bool.Decides.{nat_tests}
 use Rattle.std.proofs.lemmas.Bool.{le-leb, lt-leb, cases_lt}
 use Rattle.std.proofs.lemmas.List.Sums.{sum_by_more, fold_more}
 use Rattle.units.specs.Limits.{flow_reach}
+use Rattle.units.specs.declared.amounts.Bytes.{Bytes}
 use Rattle.units.specs.declared.refusal.Refusal.{Refusal}
 use Rattle.units.specs.declared.refusal.Refusal.TheVariants.{BeyondReach}
-use Rattle.envelope.specs.declared.load.Load.{Load}
 use Rattle.envelope.specs.Answers.{load, together, answer}
 use Rattle.envelope.specs.Totals.{sum_at, least_reach}
 
@@ -15,7 +15,7 @@ pub together_load : (m n : ℕ) → together (load m) (load n) ≡ load (m + n)
 together_load m n = grind (arith, nat_tests)
 
 -- what an answer says
-pub answer_ok : (reach : ℕ) (alpha : ℕ → ℕ) (span : ℕ) (a : Load) → Ok a ≡ answer reach alpha span → (span ≤ reach) × (a ≡ load (alpha span))
+pub answer_ok : (reach : ℕ) (alpha : ℕ → ℕ) (span : ℕ) (a : Option Bytes) → Ok a ≡ answer reach alpha span → (span ≤ reach) × (a ≡ load (alpha span))
 answer_ok reach alpha span a e =
     ⊎_elim
     (λ (far : reach < span). let z : ◌≡◌ {A = ℕ} 0 1 = (let n = rw (lt-leb span reach far) at e in cc) in absurd (omega arith))
@@ -75,7 +75,7 @@ module _ {X : Type 0} (reach : X → ℕ) (alpha : X → ℕ → ℕ) (xs : List
   total_far far = sym (answer_far (least_reach reach xs) (sum_at alpha xs) span (omega (arith, least_reach_top reach xs)))
 
   -- one envelope more
-  pub total_next : (i : ℕ) (x : X) (s a t : Load) → i < length xs → x ≡ get_or xs i x → s ≡ load (sum_at alpha (take i xs) span) → span ≤ least_reach reach (take i xs) → Ok a ≡ answer (reach x) (alpha x) span → t ≡ together s a → (t ≡ load (sum_at alpha (take (i + 1) xs) span)) × (span ≤ least_reach reach (take (i + 1) xs))
+  pub total_next : (i : ℕ) (x : X) (s a t : Option Bytes) → i < length xs → x ≡ get_or xs i x → s ≡ load (sum_at alpha (take i xs) span) → span ≤ least_reach reach (take i xs) → Ok a ≡ answer (reach x) (alpha x) span → t ≡ together s a → (t ≡ load (sum_at alpha (take (i + 1) xs) span)) × (span ≤ least_reach reach (take (i + 1) xs))
   total_next i x s a t h read is near told made =
       let here = answer_ok (reach x) (alpha x) span a told in
       let more = sum_by_more (λ y. alpha y span) xs i x h in
@@ -95,7 +95,7 @@ module _ {X : Type 0} (reach : X → ℕ) (alpha : X → ℕ → ℕ) (xs : List
       ap Err here.1 ∙ sym (answer_far (least_reach reach xs) (sum_at alpha xs) span far)
 
   -- all of them
-  pub total_all : (i : ℕ) (s : Load) → length xs ≤ i → s ≡ load (sum_at alpha (take i xs) span) → span ≤ least_reach reach (take i xs) → Ok s ≡ answer (least_reach reach xs) (sum_at alpha xs) span
+  pub total_all : (i : ℕ) (s : Option Bytes) → length xs ≤ i → s ≡ load (sum_at alpha (take i xs) span) → span ≤ least_reach reach (take i xs) → Ok s ≡ answer (least_reach reach xs) (sum_at alpha xs) span
   total_all i s h is near =
       let whole = take_all i xs h in
       let near' : span ≤ least_reach reach xs = rw whole at near in

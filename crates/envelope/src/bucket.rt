@@ -7,7 +7,6 @@ ghost use Rattle.envelope.specs.Laws.{bucket_laws};
 ghost use Rattle.envelope.specs.Ranges.{BucketRange};
 
 use crate::envelope_trait::Envelope;
-use crate::load::Load;
 use units::limits::{FLOW_REACH, MAX_BURST, MAX_RATE_TICKS, MIN_BURST};
 use units::{Bytes, Refusal, Ticks};
 
@@ -48,15 +47,15 @@ impl Envelope for Bucket {
     ghost laws = { bucket_laws (λ b. b.burst.0) (λ b. b.num.0) (λ b. b.den.0) (λ b. b.den_least) };
 
     // The burst and the rate, rounded down.
-    fn at(&self, span: Ticks) -> Result<Load, Refusal> {
+    fn at(&self, span: Ticks) -> Result<Option<Bytes>, Refusal> {
         if span.0 > FLOW_REACH {
             return Err(Refusal::BeyondReach);
         }
         if span.0 == 0 {
-            return Ok(Load::Is(Bytes(0)));
+            return Ok(Some(Bytes(0)));
         }
         let earned = self.num.0 * span.0 / self.den.0;
-        Ok(Load::Is(Bytes(self.burst.0 + earned)))
+        Ok(Some(Bytes(self.burst.0 + earned)))
     }
 
     fn longest(&self) -> Ticks {

@@ -7,7 +7,6 @@ ghost use Rattle.envelope.specs.Laws.{periodic_laws};
 ghost use Rattle.envelope.specs.Ranges.{PeriodicRange};
 
 use crate::envelope_trait::Envelope;
-use crate::load::Load;
 use units::limits::{FLOW_REACH, MAX_FRAME, MAX_JITTER, MAX_PERIOD, MIN_FRAME};
 use units::{Bytes, Refusal, Ticks};
 
@@ -51,15 +50,15 @@ impl Envelope for Periodic {
     ghost laws = { periodic_laws (λ p. p.bytes.0) (λ p. p.period.0) (λ p. p.jitter.0) (λ p. p.period_least) };
 
     // A frame for each period that the span and the jitter reach into.
-    fn at(&self, span: Ticks) -> Result<Load, Refusal> {
+    fn at(&self, span: Ticks) -> Result<Option<Bytes>, Refusal> {
         if span.0 > FLOW_REACH {
             return Err(Refusal::BeyondReach);
         }
         if span.0 == 0 {
-            return Ok(Load::Is(Bytes(0)));
+            return Ok(Some(Bytes(0)));
         }
         let frames = (span.0 + self.jitter.0 + (self.period.0 - 1)) / self.period.0;
-        Ok(Load::Is(Bytes(self.bytes.0 * frames)))
+        Ok(Some(Bytes(self.bytes.0 * frames)))
     }
 
     fn longest(&self) -> Ticks {

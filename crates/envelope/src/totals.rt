@@ -5,20 +5,20 @@ ghost use Rattle.envelope.specs.Laws.{all_laws};
 ghost use Rattle.envelope.specs.Totals.{sum_at, least_reach};
 
 use crate::envelope_trait::Envelope;
-use crate::load::Load;
+use crate::load::together;
 use units::limits::FLOW_REACH;
 use units::{Bytes, Refusal, Ticks};
 
 // The bytes of all the envelopes in a span, added. Refused beyond the least of their reaches, and beyond 40,000,000 ticks.
-pub fn total<E: Envelope>(row: &[E], span: Ticks) -> Result<Load, Refusal>
+pub fn total<E: Envelope>(row: &[E], span: Ticks) -> Result<Option<Bytes>, Refusal>
     ensures { result ≡ answer (least_reach E.reach row.now) (sum_at E.alpha row.now) span.0 }
 {
     if span.0 > FLOW_REACH {
         return Err(Refusal::BeyondReach);
     }
-    let mut sum = Load::Is(Bytes(0));
+    let mut sum = Some(Bytes(0));
     for each in row {
-        sum = sum.plus(each.at(span)?);
+        sum = together(sum, each.at(span)?);
     }
     Ok(sum)
 }
@@ -45,7 +45,7 @@ impl<'a, E: Envelope> Envelope for AllOf<'a, E> {
 
     ghost laws = { all_laws E.laws (λ s. s.0.now) };
 
-    fn at(&self, span: Ticks) -> Result<Load, Refusal> {
+    fn at(&self, span: Ticks) -> Result<Option<Bytes>, Refusal> {
         total(self.0, span)
     }
 

@@ -15,8 +15,8 @@ returns-in_err-at g c =
 pub loop-each-preserved : goal.loop-each-preserved
 loop-each-preserved g c =
     let e = g.E.Envelope in
-    total_next e.reach e.alpha c.args.row.now c.args.span.0 c.loop-each.each-index c.each-item.result c.loop-each.sum c.in_ok-at.field-0 c.plus-sum.result
-    c.loop-each-test.true c.each-item.is c.loop-each.invariant.0 c.loop-each.invariant.1 c.in_ok-at.ensures c.plus-sum.ensures
+    total_next e.reach e.alpha c.args.row.now c.args.span.0 c.loop-each.each-index c.each-item.result c.loop-each.sum c.in_ok-at.field-0 c.together-sum.result
+    c.loop-each-test.true c.each-item.is c.loop-each.invariant.0 c.loop-each.invariant.1 c.in_ok-at.ensures c.together-sum.ensures
 
 pub returns : goal.returns
 returns g c =
