@@ -1,10 +1,8 @@
 -- Within their reach no bucket and no periodic flow has too many bytes to tell. Assumes nothing.
-use Rattle.std.proofs.Common.{◌≡◌, ℕ, ◌+◌, ◌-◌, ◌*◌, ◌/◌, ◌≤◌, Some, Ok, mul-le-mul_right, mul-le-mul, div-le_self, arith}
+use Rattle.std.proofs.Common.{ℕ, ◌+◌, ◌-◌, ◌*◌, ◌/◌, ◌≤◌, mul-le-mul_right, mul-le-mul, div-le_self, arith}
 use native.Mathlib.Nat.{div-le_of_le-mul}
-use Rattle.std.proofs.lemmas.Bool.{le-leb}
 use Rattle.units.specs.Limits.{most_burst, most_frame, most_jitter, most_period, flow_reach, most_load}
 use Rattle.envelope.specs.Kinds.{ceiling}
-use Rattle.envelope.specs.Answers.{answer}
 
 -- a bucket
 pub bucket_small : (burst num den d : ℕ) → burst ≤ most_burst → 1 ≤ den → num ≤ den → d ≤ flow_reach → burst + num * d / den ≤ most_load
@@ -19,7 +17,3 @@ periodic_small bytes period jitter d hb hj pos hp hd =
     let r : ceiling (d + jitter) period ≤ 48000000 = omega arith in
     let p = mul-le-mul hb r in
     omega arith
-
--- a query within the reach that comes to n, no more than 2^40
-pub answer_is : (reach : ℕ) (alpha : ℕ → ℕ) (span n : ℕ) → span ≤ reach → n ≤ most_load → alpha span ≡ n → Ok (Some (record { 0 = n })) ≡ answer reach alpha span
-answer_is reach alpha span n within small is = rw is (rw (le-leb span reach within, le-leb n (most_load) small))

@@ -3,10 +3,11 @@ ghost use Rattle.std.specs.Prelude.{◌≡◌, ◌≤◌, MatchResult};
 ghost use Rattle.units.specs.Limits.{flow_reach, least_burst, most_burst, most_rate_ticks};
 ghost use Rattle.units.specs.declared.refusal.Refusal.TheVariants.{FlowRange};
 ghost use Rattle.envelope.specs.Kinds.{bucket_bytes};
-ghost use Rattle.envelope.specs.Laws.{bucket_laws};
+ghost use Rattle.envelope.specs.Kept.{bucket_laws};
 ghost use Rattle.envelope.specs.Ranges.{BucketRange};
 
 use crate::envelope_trait::Envelope;
+use crate::ranges::{in_range, within_reach};
 use units::limits::{FLOW_REACH, MAX_BURST, MAX_RATE_TICKS, MIN_BURST};
 use units::{Bytes, Refusal, Ticks};
 
@@ -29,12 +30,9 @@ impl Bucket {
     pub fn new(burst: Bytes, num: Bytes, den: Ticks) -> Result<Bucket, Refusal>
         ensures { MatchResult result (λ b. (b.burst ≡ burst) × (b.num ≡ num) × (b.den ≡ den)) (λ e. (e ≡ FlowRange) × (BucketRange burst.0 num.0 den.0 → ⊥)) }
     {
-        if burst.0 < MIN_BURST || burst.0 > MAX_BURST {
-            return Err(Refusal::FlowRange);
-        }
-        if den.0 < 1 || den.0 > MAX_RATE_TICKS || num.0 > den.0 {
-            return Err(Refusal::FlowRange);
-        }
+        in_range(burst.0, MIN_BURST, MAX_BURST)?;
+        in_range(den.0, 1, MAX_RATE_TICKS)?;
+        in_range(num.0, 0, den.0)?;
         Ok(Bucket { burst, num, den })
     }
 }
@@ -48,9 +46,7 @@ impl Envelope for Bucket {
 
     // The burst and the rate, rounded down.
     fn at(&self, span: Ticks) -> Result<Option<Bytes>, Refusal> {
-        if span.0 > FLOW_REACH {
-            return Err(Refusal::BeyondReach);
-        }
+        within_reach(span)?;
         if span.0 == 0 {
             return Ok(Some(Bytes(0)));
         }

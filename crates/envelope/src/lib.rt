@@ -5,6 +5,7 @@ mod bucket;
 mod envelope_trait;
 mod load;
 mod periodic;
+mod ranges;
 mod sum;
 mod totals;
 

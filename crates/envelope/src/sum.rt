@@ -1,6 +1,6 @@
 // Two envelopes together.
 ghost use Rattle.std.specs.Prelude.{◌+◌, min};
-ghost use Rattle.envelope.specs.Laws.{sum_laws};
+ghost use Rattle.envelope.specs.Kept.{sum_laws};
 
 use crate::envelope_trait::Envelope;
 use crate::load::together;

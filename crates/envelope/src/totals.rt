@@ -1,11 +1,12 @@
 // Any number of envelopes of one kind together.
 ghost use Rattle.std.specs.Prelude.{◌≡◌};
 ghost use Rattle.envelope.specs.Answers.{answer};
-ghost use Rattle.envelope.specs.Laws.{all_laws};
+ghost use Rattle.envelope.specs.Kept.{all_laws};
 ghost use Rattle.envelope.specs.Totals.{sum_at, least_reach};
 
 use crate::envelope_trait::Envelope;
 use crate::load::together;
+use crate::ranges::within_reach;
 use units::limits::FLOW_REACH;
 use units::{Bytes, Refusal, Ticks};
 
@@ -13,9 +14,8 @@ use units::{Bytes, Refusal, Ticks};
 pub fn total<E: Envelope>(row: &[E], span: Ticks) -> Result<Option<Bytes>, Refusal>
     ensures { result ≡ answer (least_reach E.reach row.now) (sum_at E.alpha row.now) span.0 }
 {
-    if span.0 > FLOW_REACH {
-        return Err(Refusal::BeyondReach);
-    }
+    within_reach(span)?;
+    // A rule of the project asks for a `for` over the elements here.
     let mut sum = Some(Bytes(0));
     for each in row {
         sum = together(sum, each.at(span)?);
@@ -27,10 +27,9 @@ pub fn total<E: Envelope>(row: &[E], span: Ticks) -> Result<Option<Bytes>, Refus
 pub fn least_reach<E: Envelope>(row: &[E]) -> Ticks
     ensures { result.0 ≡ least_reach E.reach row.now }
 {
-    let mut least = FLOW_REACH;
-    for each in row {
-        least = least.min(each.longest().0);
-    }
+    let least = row
+        .iter()
+        .fold(FLOW_REACH, |least, each| least.min(each.longest().0));
     Ticks(least)
 }
 
