@@ -38,6 +38,7 @@ fn next_rise<E: Envelope>(envelope: &E, from: Ticks, to: Ticks, bytes: Bytes) ->
 {
     let mut low = from.0;
     let mut high = to.0;
+    // How far beyond `low` the next look goes, where half of the spans that are left is not nearer.
     let mut step = 1;
     // No `for`: each look says which spans are left, and no slice holds them that `partition_point` could search.
     while 1 < high - low {
@@ -52,7 +53,8 @@ fn next_rise<E: Envelope>(envelope: &E, from: Ticks, to: Ticks, bytes: Bytes) ->
     Ticks(high)
 }
 
-// Delay and held bytes of whatever arrives inside the envelope and is sent by the supply. None where there is no closing span.
+// Delay and held bytes of whatever arrives inside the envelope and is sent by the supply. None where there is no closing span. By a
+// rule of the project the two are a tuple.
 pub fn bound_over<S: Supply, E: Envelope>(supply: &S, envelope: &E) -> Option<(Ticks, Bytes)>
     ensures { MatchOption result (most_span < closing (E.alpha envelope.now) (S.supplied supply.now)) (λ b. (closing (E.alpha envelope.now) (S.supplied supply.now) ≤ most_span) × (b.0.0 ≡ delay (E.alpha envelope.now) (S.supplied supply.now)) × (b.1.0 ≡ held (E.alpha envelope.now) (S.supplied supply.now))) }
 {

@@ -2,7 +2,7 @@
 -- that stands in the proofs/ of its own crate. Assumes nothing.
 use Rattle.std.specs.Prelude.{◌≡◌, ℕ, ◌+◌, ◌-◌, ◌*◌, ◌/◌, ◌<◌, ◌≤◌, min, cond, List, [], ◌∷◌, fold, ◌==◌, refl}
 use Rattle.std.proofs.Common.{◌∙◌, add-le-add, div-mul-le_self, mul-le-mul_left, arith}
-use Rattle.std.proofs.lemmas.List.Sums.{sum_by-cons}
+use Rattle.std.proofs.lemmas.List.Sums.{sum_by-cons, sum_by-le-sum_by}
 use Rattle.std.proofs.lemmas.Nat.{le-div}
 use Rattle.std.proofs.lemmas.Bool.Decides.{nat_tests}
 use Rattle.units.specs.Limits.{most_span, flow_reach}
@@ -22,11 +22,7 @@ module _ {X : Type 0} {alpha : X → ℕ → ℕ} {reach : X → ℕ} (laws : En
 
   -- and never less in more
   rises_all : (xs : List X) (i j : ℕ) → i ≤ j → sum_at alpha xs i ≤ sum_at alpha xs j
-  rises_all [] i j h = omega arith
-  rises_all (x ∷ xs) i j h =
-      let e = laws.rises x i j h in
-      let t = rises_all xs i j h in
-      rw (sum_by-cons (λ y. alpha y i) x xs, sum_by-cons (λ y. alpha y j) x xs) (omega arith)
+  rises_all xs i j h = sum_by-le-sum_by (λ y. alpha y i) (λ y. alpha y j) xs (λ y. laws.rises y i j h)
 
   -- their least reach is far
   far_from : (a : ℕ) → most_span ≤ a → (xs : List X) → most_span ≤ fold (λ b x. min b (reach x)) a xs
