@@ -1,21 +1,11 @@
 -- What a row of envelopes comes to, one after another. Assumes nothing.
-use Rattle.std.proofs.Common.{◌≡◌, ℕ, zero, suc, ◌+◌, ◌<◌, ◌≤◌, min, List, [], ◌∷◌, length, get_or, take, Option, Ok, Err, fold, ap, arith, take_all}
+use Rattle.std.proofs.Common.{◌≡◌, ℕ, zero, suc, ◌<◌, ◌≤◌, min, List, [], ◌∷◌, length, get_or, Err, fold, ap, arith}
 use Rattle.std.proofs.lemmas.Bool.Decides.{nat_tests}
-use Rattle.std.proofs.lemmas.List.Sums.{sum_by_more, fold_more}
 use Rattle.units.specs.Limits.{flow_reach}
-use Rattle.units.specs.declared.amounts.Bytes.{Bytes}
 use Rattle.units.specs.declared.refusal.Refusal.{Refusal}
 use Rattle.units.specs.declared.refusal.Refusal.TheVariants.{BeyondReach}
-use Rattle.envelope.specs.Answers.{load, together, answer}
+use Rattle.envelope.specs.Answers.{answer}
 use Rattle.envelope.specs.Totals.{sum_at, least_reach}
-
--- loads add as numbers do
-pub together_load : (m n : ℕ) → together (load m) (load n) ≡ load (m + n)
-together_load m n = grind (arith, nat_tests)
-
--- what an answer says
-pub answer_ok : (reach : ℕ) (alpha : ℕ → ℕ) (span : ℕ) (a : Option Bytes) → Ok a ≡ answer reach alpha span → (span ≤ reach) × (a ≡ load (alpha span))
-answer_ok reach alpha span a e = grind (arith, nat_tests)
 
 -- what a refusal says
 pub answer_err : (reach : ℕ) (alpha : ℕ → ℕ) (span : ℕ) (w : Refusal) → Err w ≡ answer reach alpha span → (reach < span) × (w ≡ BeyondReach)
@@ -44,18 +34,6 @@ module _ {X : Type 0} (reach : X → ℕ) (alpha : X → ℕ → ℕ) (xs : List
   pub total_far : flow_reach < span → Err BeyondReach ≡ answer (least_reach reach xs) (sum_at alpha xs) span
   total_far far = let top = least_le reach flow_reach xs in grind (arith, nat_tests)
 
-  -- one envelope more
-  pub total_next : (i : ℕ) (x : X) (s a t : Option Bytes) → i < length xs → x ≡ get_or xs i x → s ≡ load (sum_at alpha (take i xs) span) → span ≤ least_reach reach (take i xs) → Ok a ≡ answer (reach x) (alpha x) span → t ≡ together s a → (t ≡ load (sum_at alpha (take (i + 1) xs) span)) × (span ≤ least_reach reach (take (i + 1) xs))
-  total_next i x s a t h read is near told made =
-      let here = answer_ok (reach x) (alpha x) span a told in
-      let more = sum_by_more (λ y. alpha y span) xs i x h in
-      let least = fold_more (λ b y. min b (reach y)) flow_reach xs i x h in
-      let q = ap reach read in
-      let r = ap (λ y. alpha y span) read in (
-        rw (made, is, here.1, together_load, more, ← r),
-        rw least (omega arith),
-      )
-
   -- one that refuses
   pub total_stops : (i : ℕ) (x : X) (w : Refusal) → i < length xs → x ≡ get_or xs i x → Err w ≡ answer (reach x) (alpha x) span → Err w ≡ answer (least_reach reach xs) (sum_at alpha xs) span
   total_stops i x w h read told =
@@ -63,10 +41,3 @@ module _ {X : Type 0} (reach : X → ℕ) (alpha : X → ℕ → ℕ) (xs : List
       let near = least_reach_at reach xs i x h in
       let q = ap reach read in
       grind (arith, nat_tests)
-
-  -- all of them
-  pub total_all : (i : ℕ) (s : Option Bytes) → length xs ≤ i → s ≡ load (sum_at alpha (take i xs) span) → span ≤ least_reach reach (take i xs) → Ok s ≡ answer (least_reach reach xs) (sum_at alpha xs) span
-  total_all i s h is near =
-      let whole = take_all i xs h in
-      let near' : span ≤ least_reach reach xs = rw whole at near in
-      rw (is, whole) (grind (arith, nat_tests))

@@ -1,5 +1,5 @@
 use Rattle.std.proofs.lemmas.Result.{err_from_is_err_and}
-use Rattle.envelope.proofs.Rows.{total_far, total_next, total_stops, total_all}
+use Rattle.envelope.proofs.Rows.{total_far, total_stops}
 use Rattle.envelope.proofs.totals.total.Goals as goal
 
 pub returns-in_err-within_reach : goal.returns-in_err-within_reach
@@ -14,14 +14,3 @@ returns-in_err-at g c =
     let e = g.E.Envelope in
     let p = err_from_is_err_and c.from_residual-in_err-at.result c.from_residual-in_err-at.ensures.1 in
     rw (p.1, p.2) (total_stops e.reach e.alpha c.args.row.now c.args.span.0 c.loop-each.each-index c.each-item.result _ c.loop-each-test.true c.each-item.is c.in_err-at.ensures)
-
-pub loop-each-preserved : goal.loop-each-preserved
-loop-each-preserved g c =
-    let e = g.E.Envelope in
-    total_next e.reach e.alpha c.args.row.now c.args.span.0 c.loop-each.each-index c.each-item.result c.loop-each.sum c.in_ok-at.field-0 c.together-sum.result
-    c.loop-each-test.true c.each-item.is c.loop-each.invariant.0 c.loop-each.invariant.1 c.in_ok-at.ensures c.together-sum.ensures
-
-pub returns : goal.returns
-returns g c =
-    let e = g.E.Envelope in
-    total_all e.reach e.alpha c.args.row.now c.args.span.0 c.loop-each.each-index c.loop-each.sum c.loop-each-test.false c.loop-each.invariant.0 c.loop-each.invariant.1
