@@ -13,6 +13,7 @@ use crate::runs::hold;
 use gates::GateList;
 use plan::Plan;
 use sure_ticks::Slot;
+use units::Class;
 
 // The frames that can be on the wire at a tick of the slots.
 #[derive(Drop)]
@@ -26,8 +27,8 @@ impl<'a> Waits for FramesInSlots<'a> {
     ghost waits = { λ f k. (if any (λ t. covered f.plan.now.gates.cycle.0 f.slots.now t && opened f.plan.now.gates.lines.items k t) f.plan.now.gates.cycle.0 then longest (contents f.plan.now) k - 1 else 0) };
 
     // All but a tick of its largest frame, if the class is open at a tick of the slots.
-    fn ticks(&self, class: u8) -> u64 {
-        if !open_in(self.plan.gates(), self.slots, class) {
+    fn ticks(&self, class: Class) -> u64 {
+        if !open_in(self.plan.gates(), self.slots, u8::from(class)) {
             return 0;
         }
         hold(self.plan, class).saturating_sub(1)

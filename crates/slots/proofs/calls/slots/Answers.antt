@@ -5,6 +5,8 @@ use Rattle.slots.proofs.calls.slots.Goals as goal
 
 pub write-requires : goal.write-requires
 write-requires c =
-    let f = c.in_ok-found.found in
-    let s = plan_small c.args.plan.now c.args.class c.as_slice.result.now (c.as_slice.ensures ∙ c.in_ok-found.ensures.1) in
-    record { room = omega (arith, ap length c.as_slice.ensures, counted f, f.few, c.if-list-lt-MIN_LIST.false); small = s }
+    let f = c.find-found.result in
+    record {
+      room = omega (arith, ap length c.as_slice.ensures, counted f, f.few, c.if-list-lt-MIN_LIST.false);
+      small = plan_small c.args.plan.now c.in_ok-class.class.number c.as_slice.result.now (c.as_slice.ensures ∙ c.find-found.ensures);
+    }
