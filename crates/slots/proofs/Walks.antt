@@ -101,6 +101,10 @@ module _ (ls : List GateLine) (cycle : ℕ) (law : Lawful ls cycle) where
 pub law_of : (g : GateList) → Lawful (vec_items g.lines) g.cycle.0
 law_of g = record { each = g.each; together = g.together; some = g.some; few = g.few; most = g.most }
 
+-- the lines that a loop reads are the list's
+pub lines_same : (xs : List GateLine) (g h : GateList) → xs ≡ vec_items g.lines → g ≡ h → xs ≡ vec_items h.lines
+lines_same xs g h e f = e ∙ ap (λ (v : GateList). vec_items v.lines) f
+
 -- lines and then lines
 total_append : (xs ys : List GateLine) → total (xs ++ ys) ≡ total xs + total ys
 unfolding total

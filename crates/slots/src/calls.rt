@@ -66,11 +66,10 @@ fn write(slots: &[Slot], list: &mut [u32])
     requires small { AllByRecursion Small slots.now }
     ensures { list.new ≡ turns slots.now ++ drop (2 * length slots.now) list.old }
 {
-    let mut at = 0;
-    for slot in slots {
-        list[at] = slot.begin.0 as u32;
-        list[at + 1] = slot.length.0 as u32;
-        at += 2;
+    // Of a list that was lent in chunks to be written, a proof knows only the length: so each place is reached by its index.
+    for (i, slot) in slots.iter().enumerate() {
+        list[2 * i] = slot.begin.0 as u32;
+        list[2 * i + 1] = slot.length.0 as u32;
     }
 }
 
@@ -79,9 +78,5 @@ fn total_length(slots: &[Slot]) -> u64
     requires { lengths slots.now ≤ most_cycle }
     ensures { result ≡ lengths slots.now }
 {
-    let mut sum = 0u64;
-    for slot in slots {
-        sum += slot.length.0;
-    }
-    sum
+    slots.iter().map(|slot| slot.length.0).sum()
 }

@@ -18,6 +18,7 @@ pub(crate) fn greatest_below<W: Waits>(frames: &W, class: Class) -> u64
 {
     let mut most = 0u64;
     for number in (0..u8::from(class)).rev() {
+        // What is below a class is a class, so this is never refused.
         if let Ok(lower) = Class::try_from(number) {
             most = most.max(frames.ticks(lower));
         }
