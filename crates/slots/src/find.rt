@@ -26,7 +26,8 @@ impl SlotList {
     }
 }
 
-// The slots of a class. One that begins past the cycle's end begins in the next cycle before all others, and so comes first.
+// The slots of a class. One that begins past the cycle's end begins in the next cycle before all others, and so comes first. A struct
+// of the plan and the class would say no more than the two do, which every public call is asked with.
 pub(crate) fn find(plan: &Plan, class: Class) -> SlotList
     ensures { items result ≡ slots_of (contents plan.now) class.number }
 {
