@@ -2,9 +2,9 @@ use Rattle.std.proofs.Common.{rules}
 use Rattle.sure_ticks.specs.Sure.{lengths}
 use Rattle.slots.proofs.calls.total_length.Goals as goal
 
-pub sum-requires : goal.sum-requires
+pub sum-requires-clause-fits : goal.sum-requires-clause-fits
 unfolding lengths
-sum-requires c = search rules
+sum-requires-clause-fits c = search rules
 
 pub returns : goal.returns
 unfolding lengths

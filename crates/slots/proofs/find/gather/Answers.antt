@@ -6,7 +6,7 @@ use Rattle.slots.specs.Beginnings.{late}
 use Rattle.slots.specs.OfPlan.{longest}
 use Rattle.slots.specs.Listed.{items}
 use Rattle.slots.proofs.Walks.{law_of, lines_same}
-use Rattle.slots.proofs.Gathers.{gather_none, gather_all, gather_fits, gather_room, gather_more}
+use Rattle.slots.proofs.Gathers.{gather_none, gather_fits, gather_room, gather_more}
 use Rattle.slots.proofs.find.gather.Goals as goal
 use Rattle.slots.proofs.find.gather.Goals.{in-Some, in_default}
 
@@ -36,9 +36,3 @@ loop-index-preserved c =
       | in-Some w ↦ ap items w.slots-is ∙ w.push.ensures ∙ ap (λ v. items c.loop-index.slots ++ v) w.in-Some.ensures
       | in_default w ↦ ap items w.slots-is ∙ sym (append-nil (items c.loop-index.slots)) ∙ ap (λ v. items c.loop-index.slots ++ v) w.in_default.ensures
     ])
-
-pub returns : goal.returns
-returns c =
-    let e = lines_same _ _ _ c.lines-line-items.ensures c.gates.ensures in
-    gather_all _ _ (late c.args.asked) (longest (contents c.args.plan.now)) c.args.class.number c.args.slots.now (law_of c.args.plan.now.gates) c.loop-index.index c.loop-index.tick c.loop-index.slots
-    (omega (arith, ap length e, c.loop-index-test.false)) c.loop-index.invariant

@@ -3,12 +3,6 @@ use Rattle.calculus.specs.Searches.{greatest}
 use Rattle.calculus.proofs.Bounded.{greatest_none, greatest_last}
 use Rattle.slots.proofs.lower.greatest_below.Goals as goal
 
-pub loop-number-init : goal.loop-number-init
-loop-number-init g c = let e = ap (greatest (g.W.Waits.waits c.args.frames.now)) c.from-number.ensures in omega arith
-
-pub loop-number-preserved : goal.loop-number-preserved
-loop-number-preserved g c = absurd (omega (arith, c.in_default.ensures.0, c.loop-number.auto.number, c.from-number.ensures, c.args.class.low))
-
 pub loop-number-preserved-in-Ok : goal.loop-number-preserved-in-Ok
 loop-number-preserved-in-Ok g c =
     let e = greatest_last (g.W.Waits.waits c.args.frames.now) c.loop-number.number c.loop-number-test.true in

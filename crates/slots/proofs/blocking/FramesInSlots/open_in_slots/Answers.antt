@@ -16,13 +16,12 @@ overflow_add-end c =
     let lt : c.loop-line.line-index < length (vec_items z.plan.now.gates.lines) = omega (arith, ap length e, c.loop-line-test.true) in
     omega (arith, (line_in _ _ (law_of z.plan.now.gates) z.slots.now c.args.class.number c.loop-line.line-index c.loop-line.begin c.loop-line.invariant lt _ (ap (λ xs. line xs c.loop-line.line-index) e)).1, z.plan.now.gates.most)
 
-pub meets-requires : goal.meets-requires
-meets-requires c =
+pub meets-requires-clause-inside : goal.meets-requires-clause-inside
+meets-requires-clause-inside c =
     let z = c.args.self.now in
     let e = lines_same _ _ _ c.lines-line-items.ensures c.gates.ensures in
     let lt : c.loop-line.line-index < length (vec_items z.plan.now.gates.lines) = omega (arith, ap length e, c.loop-line-test.true) in
-    let w = line_in _ _ (law_of z.plan.now.gates) z.slots.now c.args.class.number c.loop-line.line-index c.loop-line.begin c.loop-line.invariant lt _ (ap (λ xs. line xs c.loop-line.line-index) e) in
-    record { some = omega (arith, w.0); inside = w.1 }
+    (line_in _ _ (law_of z.plan.now.gates) z.slots.now c.args.class.number c.loop-line.line-index c.loop-line.begin c.loop-line.invariant lt _ (ap (λ xs. line xs c.loop-line.line-index) e)).1
 
 pub returns-then-meets : goal.returns-then-meets
 returns-then-meets c =
