@@ -4,7 +4,7 @@ use Rattle.std.proofs.lemmas.List.{append-nil, append_assoc, length-append, leng
 use Rattle.units.specs.Limits.{most_slots}
 use Rattle.gates.specs.declared.gate_line.GateLine.{GateLine}
 use Rattle.gates.specs.Opened.{total, opened, start, line, Lawful}
-use Rattle.gates.proofs.Lines.{start_next, start_more, start_all, start_most}
+use Rattle.gates.proofs.Lines.{start_more, start_all, start_most}
 use Rattle.sure_ticks.specs.Slots.{slot_at, found}
 use Rattle.sure_ticks.proofs.Found.{found_mono}
 use Rattle.slots.specs.declared.slot_list.SlotList.{SlotList}
@@ -36,10 +36,6 @@ module _ (ls : List GateLine) (cycle : ℕ) (late : Bool) (M : ℕ → ℕ) (c :
     more : found late cycle (opened ls) M c (start ls (i + 1)) ≡ found late cycle (opened ls) M c (start ls i) ++ slot_at late cycle (opened ls) M c a
     more = found_line ls cycle law late M c i lt ∙ ap (λ v. found late cycle (opened ls) M c (start ls i) ++ slot_at late cycle (opened ls) M c v) (sym g.begun)
 
-    -- the tick stays small
-    pub gather_fits : a + (line ls i).length.0 ≤ cycle
-    gather_fits = let n = start_next ls i lt in let m = start_most ls (i + 1) in omega (arith, start_more ls i lt, law.together, g.begun)
-
     -- there is room for the slot of the line
     pub gather_room : before.count + length (found late cycle (opened ls) M c cycle) ≤ most_slots → slots.count + length (slot_at late cycle (opened ls) M c a) ≤ most_slots
     gather_room room =
@@ -49,11 +45,21 @@ module _ (ls : List GateLine) (cycle : ℕ) (late : Bool) (M : ℕ → ℕ) (c :
         let n = ap length g.added ∙ length-append (items before) (found late cycle (opened ls) M c (start ls i)) in
         omega (arith, counted slots, counted before)
 
-    -- once it is added
-    pub gather_more : (next : SlotList) → items next ≡ items slots ++ slot_at late cycle (opened ls) M c a → Gathered ls cycle late M c before (i + 1) (a + (line ls i).length.0) next
-    gather_more next e =
-        record {
-          begun = omega (arith, start_more ls i lt, g.begun);
-          added = e ∙ ap (λ v. v ++ slot_at late cycle (opened ls) M c a) g.added
-              ∙ append_assoc (items before) (found late cycle (opened ls) M c (start ls i)) (slot_at late cycle (opened ls) M c a) ∙ ap (λ v. items before ++ v) (sym more);
-        }
+    -- the line
+    module _ (l : GateLine) (q : l ≡ line ls i) where
+      -- where it ends
+      line_end : a + l.length.0 ≡ start ls (i + 1)
+      line_end = let e = ap (λ (v : GateLine). v.length.0) q in omega (arith, start_more ls i lt, g.begun)
+
+      -- the tick stays small
+      pub gather_fits : a + l.length.0 ≤ cycle
+      gather_fits = let m = start_most ls (i + 1) in omega (arith, line_end, law.together)
+
+      -- once its slot is added
+      pub gather_more : (next : SlotList) → items next ≡ items slots ++ slot_at late cycle (opened ls) M c a → Gathered ls cycle late M c before (i + 1) (a + l.length.0) next
+      gather_more next e =
+          record {
+            begun = line_end;
+            added = e ∙ ap (λ v. v ++ slot_at late cycle (opened ls) M c a) g.added
+                ∙ append_assoc (items before) (found late cycle (opened ls) M c (start ls i)) (slot_at late cycle (opened ls) M c a) ∙ ap (λ v. items before ++ v) (sym more);
+          }

@@ -1,5 +1,5 @@
 -- Runs begin with lines: what one that begins with a line comes to. Assumes nothing.
-use Rattle.std.proofs.Common.{◌≡◌, ℕ, zero, suc, ◌+◌, ◌-◌, ◌*◌, ◌<◌, ◌≤◌, min, Bool, true, false, not, ◌&&◌, ltb, List, ◌++◌, length, sym, refl, ap, ◌∙◌, inl, inr, add-one, arith}
+use Rattle.std.proofs.Common.{◌≡◌, ℕ, zero, suc, ◌+◌, ◌-◌, ◌*◌, ◌<◌, ◌≤◌, min, Bool, true, false, not, ◌&&◌, ltb, List, ◌++◌, length, sym, ap, ◌∙◌, inl, inr, add-one, arith}
 use Rattle.std.proofs.lemmas.Bool.{lt-ltb, le-ltb, and_left, and_right, cases_Bool, cases_lt, cond-true, cond-false, not_from_true}
 use Rattle.std.proofs.lemmas.List.{length-append}
 use Rattle.units.specs.Limits.{most_slots}
@@ -12,11 +12,8 @@ use Rattle.gates.proofs.Lines.{start_next, start_more, start_all}
 use Rattle.sure_ticks.specs.Runs.{clear, begins, blocked_by, blocking, usable}
 use Rattle.sure_ticks.specs.Slots.{run_slot, slot_at, found}
 use Rattle.sure_ticks.proofs.Found.{begins_parts, run_slot_empty, run_slot_early, run_slot_late, slot_at_there, slot_at_none, found_quiet}
-use Rattle.slots.specs.declared.walk.Test.{Test}
-use Rattle.slots.specs.declared.walk.Test.TheVariants.{Open, Clear}
-use Rattle.slots.specs.declared.walk.LineStart.{LineStart}
-use Rattle.slots.specs.Walks.{passing, alone, Stands, previous}
-use Rattle.slots.proofs.Walks.{cycle_some, passing_later, passing_at}
+use Rattle.slots.specs.Walks.{alone, previous, AtTick}
+use Rattle.slots.proofs.Walks.{cycle_some, open_at_tick, clear_at_tick, test_later, test_at}
 
 -- a run gives two slots, a late one and another, at the most one of which is there
 one_slot : (L a d e : ℕ) → length (run_slot true L a d e) + length (run_slot false L a d e) ≤ 1
@@ -35,93 +32,91 @@ module _ (ls : List GateLine) (cycle : ℕ) (law : Lawful ls cycle) where
   next_tick : (a : ℕ) → suc (a + cycle - 1) ≡ a + cycle
   next_tick a = let p = cycle_some ls cycle law in omega arith
 
-  -- there the test comes out as at the tick
-  passing_next : (b : Test) (c a : ℕ) → passing (opened ls) b c (suc (a + cycle - 1)) ≡ passing (opened ls) b c a
-  passing_next b c a = ap (passing (opened ls) b c) (next_tick a) ∙ passing_later ls cycle law b c a
+  -- the test of a tick
+  module _ (test : (ℕ → ℕ → Bool) → ℕ → Bool) (at : AtTick test) where
+    -- there the test comes out as at the tick
+    test_next : (a : ℕ) → test (opened ls) (suc (a + cycle - 1)) ≡ test (opened ls) a
+    test_next a = ap (test (opened ls)) (next_tick a) ∙ test_later ls cycle law test at a
 
-  -- and lasts as long
-  lasts_next : (b : Test) (c a n : ℕ) → lasts (passing (opened ls) b c) (suc (a + cycle - 1)) n ≡ lasts (passing (opened ls) b c) a n
-  lasts_next b c a n = ap (λ v. lasts (passing (opened ls) b c) v n) (next_tick a) ∙ lasts_later cycle (passing (opened ls) b c) (passing_later ls cycle law b c) a n
+    -- and lasts as long
+    lasts_next : (a n : ℕ) → lasts (test (opened ls)) (suc (a + cycle - 1)) n ≡ lasts (test (opened ls)) a n
+    lasts_next a n = ap (λ v. lasts (test (opened ls)) v n) (next_tick a) ∙ lasts_later cycle (test (opened ls)) (test_later ls cycle law test at) a n
 
-  -- at the last tick of a line, one cycle later
-  passing_last : (b : Test) (c i : ℕ) → i < length ls → passing (opened ls) b c (start ls (suc i) + cycle - 1) ≡ passing (alone (line ls i)) b c 0
-  passing_last b c i lt =
-      let n = start_next ls i lt in
-      let p = law.each i lt in
-      let q : start ls (suc i) + cycle - 1 ≡ (start ls (suc i) - 1) + cycle = omega arith in
-      ap (passing (opened ls) b c) q ∙ passing_later ls cycle law b c (start ls (suc i) - 1) ∙ passing_at ls cycle law b c i (start ls (suc i) - 1) lt (omega arith) (omega arith)
+    -- at the last tick of a line, one cycle later
+    test_last : (i : ℕ) → i < length ls → test (opened ls) (start ls (suc i) + cycle - 1) ≡ test (alone (line ls i)) 0
+    test_last i lt =
+        let n = start_next ls i lt in
+        let p = law.each i lt in
+        let q : start ls (suc i) + cycle - 1 ≡ (start ls (suc i) - 1) + cycle = omega arith in
+        ap (test (opened ls)) q ∙ test_later ls cycle law test at (start ls (suc i) - 1) ∙ test_at ls cycle law test at i (start ls (suc i) - 1) lt (omega arith) (omega arith)
 
-  -- a line that begins at a tick
-  module _ (s : LineStart) (w : Stands ls s) where
-    -- at the tick before it the test comes out as in the line before it
-    prior : (b : Test) (c : ℕ) → passing (opened ls) b c (s.tick + cycle - 1) ≡ passing (alone (line ls (previous (length ls) s.line))) b c 0
+    -- at the tick before a line's beginning it comes out as in the line before it
+    prior : (i : ℕ) → i < length ls → test (opened ls) (start ls i + cycle - 1) ≡ test (alone (line ls (previous (length ls) i))) 0
     unfolding total
-    prior b c =
-        elim (cases_lt 0 s.line) [
+    prior i there =
+        elim (cases_lt 0 i) [
           | inl some ↦
-              let q : previous (length ls) s.line ≡ s.line - 1 = cond-true (ltb 0 s.line) (s.line - 1) (length ls - 1) (lt-ltb 0 s.line some) in
-              let i : suc (s.line - 1) ≡ s.line = omega arith in
-              let e : s.tick ≡ start ls (suc (s.line - 1)) = w.begun ∙ sym (ap (start ls) i) in
-              ap (λ v. passing (opened ls) b c (v + cycle - 1)) e ∙ passing_last b c (s.line - 1) (omega (arith, w.there)) ∙ sym (ap (λ v. passing (alone (line ls v)) b c 0) q)
+              let q : previous (length ls) i ≡ i - 1 = cond-true (ltb 0 i) (i - 1) (length ls - 1) (lt-ltb 0 i some) in
+              let e : suc (i - 1) ≡ i = omega arith in
+              sym (ap (λ v. test (opened ls) (start ls v + cycle - 1)) e) ∙ test_last (i - 1) (omega arith) ∙ sym (ap (λ v. test (alone (line ls v)) 0) q)
           | inr none ↦
-              let q : previous (length ls) s.line ≡ length ls - 1 = cond-false (ltb 0 s.line) (s.line - 1) (length ls - 1) (le-ltb 0 s.line none) in
-              let i : s.line ≡ 0 = omega arith in
-              let e : s.tick ≡ 0 = w.begun ∙ ap (start ls) i in
-              let n : suc (length ls - 1) ≡ length ls = omega (arith, w.there) in
+              let q : previous (length ls) i ≡ length ls - 1 = cond-false (ltb 0 i) (i - 1) (length ls - 1) (le-ltb 0 i none) in
+              let e : start ls i ≡ 0 = (let z : i ≡ 0 = omega arith in ap (start ls) z) in
+              let n : suc (length ls - 1) ≡ length ls = omega arith in
               let f : start ls (suc (length ls - 1)) ≡ cycle = ap (start ls) n ∙ start_all ls (length ls) (omega arith) ∙ law.together in
               let g = cycle_some ls cycle law in
-              let h = start_next ls (length ls - 1) (omega (arith, w.there)) in
-              let p = law.each (length ls - 1) (omega (arith, w.there)) in
-              passing_at ls cycle law b c (length ls - 1) (s.tick + cycle - 1) (omega (arith, w.there)) (omega arith) (omega arith) ∙ sym (ap (λ v. passing (alone (line ls v)) b c 0) q)
+              let h = start_next ls (length ls - 1) (omega arith) in
+              let p = law.each (length ls - 1) (omega arith) in
+              test_at ls cycle law test at (length ls - 1) (start ls i + cycle - 1) (omega arith) (omega arith) (omega arith) ∙ sym (ap (λ v. test (alone (line ls v)) 0) q)
         ]
 
     -- at its first tick as in the line itself
-    first : (b : Test) (c : ℕ) → passing (opened ls) b c (suc (s.tick + cycle - 1)) ≡ passing (alone (line ls s.line)) b c 0
-    first b c =
-        let n = start_next ls s.line w.there in
-        let p = law.each s.line w.there in
-        passing_next b c s.tick ∙ passing_at ls cycle law b c s.line s.tick w.there (omega (arith, w.begun)) (omega (arith, w.begun))
+    first : (i : ℕ) → i < length ls → test (opened ls) (suc (start ls i + cycle - 1)) ≡ test (alone (line ls i)) 0
+    first i there =
+        let n = start_next ls i there in
+        let p = law.each i there in
+        test_next (start ls i) ∙ test_at ls cycle law test at i (start ls i) there (omega arith) (omega arith)
 
+  -- a line that begins at a tick
+  module _ (i a : ℕ) (there : i < length ls) (begun : a ≡ start ls i) where
     -- a class that is shut before the line keeps no run waiting
-    pub blocked_shut : (m k : ℕ) → shows (line ls (previous (length ls) s.line)) k ≡ false → blocked_by (opened ls) m (s.tick + cycle - 1) k ≡ 0
-    unfolding blocked_by passing
-    blocked_shut m k h = cond-false (opened ls k (s.tick + cycle - 1)) _ 0 (prior Open k ∙ h)
+    pub blocked_shut : (m k : ℕ) → shows (line ls (previous (length ls) i)) k ≡ false → blocked_by (opened ls) m (a + cycle - 1) k ≡ 0
+    unfolding blocked_by
+    blocked_shut m k h = cond-false (opened ls k (a + cycle - 1)) _ 0 (ap (λ v. opened ls k (v + cycle - 1)) begun ∙ prior (λ o. o k) (open_at_tick k) i there ∙ h)
 
     -- one that is open does until it shuts
-    pub blocked_open : (m k : ℕ) → shows (line ls (previous (length ls) s.line)) k ≡ true → blocked_by (opened ls) m (s.tick + cycle - 1) k ≡ lasts (opened ls k) s.tick (m - 1)
-    unfolding blocked_by passing
+    pub blocked_open : (m k : ℕ) → shows (line ls (previous (length ls) i)) k ≡ true → blocked_by (opened ls) m (a + cycle - 1) k ≡ lasts (opened ls k) a (m - 1)
+    unfolding blocked_by
     blocked_open m k h =
-        cond-true (opened ls k (s.tick + cycle - 1)) (lasts (opened ls k) (suc (s.tick + cycle - 1)) (m - 1)) 0 (prior Open k ∙ h)
-        ∙ lasts_next Open k s.tick (m - 1)
+        cond-true (opened ls k (a + cycle - 1)) (lasts (opened ls k) (suc (a + cycle - 1)) (m - 1)) 0 (ap (λ v. opened ls k (v + cycle - 1)) begun ∙ prior (λ o. o k) (open_at_tick k) i there ∙ h)
+        ∙ lasts_next (λ o. o k) (open_at_tick k) a (m - 1)
 
-    -- no run begins where the line before is clear
-    pub begins_not : (c : ℕ) → passing (alone (line ls (previous (length ls) s.line))) Clear c 0 ≡ true → begins (opened ls) c (s.tick + cycle - 1) ≡ false
-    unfolding begins passing
-    begins_not c h = and_left (not (clear (opened ls) c (s.tick + cycle - 1))) _ (not_from_true (clear (opened ls) c (s.tick + cycle - 1)) (prior Clear c ∙ h))
-
-    -- where it is not, one begins if the line is
-    pub begins_if : (c : ℕ) → passing (alone (line ls (previous (length ls) s.line))) Clear c 0 ≡ false → begins (opened ls) c (s.tick + cycle - 1) ≡ passing (alone (line ls s.line)) Clear c 0
-    unfolding begins passing
-    begins_if c h =
-        let e₁ : clear (opened ls) c (s.tick + cycle - 1) ≡ false = prior Clear c ∙ h in
-        ap (λ v. not v && clear (opened ls) c (suc (s.tick + cycle - 1))) e₁ ∙ first Clear c
+    -- a run begins where the line before is not clear and the line is
+    pub begins_is : (c : ℕ) → begins (opened ls) c (a + cycle - 1) ≡ (not (clear (alone (line ls (previous (length ls) i))) c 0) && clear (alone (line ls i)) c 0)
+    unfolding begins
+    begins_is c =
+        let e₁ : clear (opened ls) c (a + cycle - 1) ≡ clear (alone (line ls (previous (length ls) i))) c 0 =
+        ap (λ v. clear (opened ls) c (v + cycle - 1)) begun ∙ prior (λ o. clear o c) (clear_at_tick c) i there in
+        let e₂ : clear (opened ls) c (suc (a + cycle - 1)) ≡ clear (alone (line ls i)) c 0 =
+        ap (λ v. clear (opened ls) c (suc (v + cycle - 1))) begun ∙ first (λ o. clear o c) (clear_at_tick c) i there in
+        cc
 
   -- for how long a run is usable, from its own first tick
-  pub usable_is : (m c a : ℕ) → usable cycle (opened ls) m c (a + cycle - 1) ≡ min (lasts (passing (opened ls) Clear c) a cycle) (lasts (opened ls c) a (cycle + m) + 1 - m)
-  unfolding usable passing
+  pub usable_is : (m c a : ℕ) → usable cycle (opened ls) m c (a + cycle - 1) ≡ min (lasts (clear (opened ls) c) a cycle) (lasts (opened ls c) a (cycle + m) + 1 - m)
+  unfolding usable
   usable_is m c a =
-      let e₁ : lasts (clear (opened ls) c) (suc (a + cycle - 1)) cycle ≡ lasts (clear (opened ls) c) a cycle = lasts_next Clear c a cycle in
-      let e₂ : lasts (opened ls c) (suc (a + cycle - 1)) (cycle + m) ≡ lasts (opened ls c) a (cycle + m) = lasts_next Open c a (cycle + m) in
+      let e₁ : lasts (clear (opened ls) c) (suc (a + cycle - 1)) cycle ≡ lasts (clear (opened ls) c) a cycle = lasts_next (λ o. clear o c) (clear_at_tick c) a cycle in
+      let e₂ : lasts (opened ls c) (suc (a + cycle - 1)) (cycle + m) ≡ lasts (opened ls c) a (cycle + m) = lasts_next (λ o. o c) (open_at_tick c) a (cycle + m) in
       cc
 
   -- no run begins inside a line
   begins_inside : (c i y : ℕ) → i < length ls → start ls i < y → y < start ls (suc i) → begins (opened ls) c (y + cycle - 1) ≡ false
-  unfolding begins passing
+  unfolding begins
   begins_inside c i y lt lo hi =
       let q : y + cycle - 1 ≡ (y - 1) + cycle = omega arith in
       let e₁ : clear (opened ls) c (y + cycle - 1) ≡ clear (alone (line ls i)) c 0 =
-      ap (clear (opened ls) c) q ∙ passing_later ls cycle law Clear c (y - 1) ∙ passing_at ls cycle law Clear c i (y - 1) lt (omega arith) (omega arith) in
-      let e₂ : clear (opened ls) c (suc (y + cycle - 1)) ≡ clear (alone (line ls i)) c 0 = passing_next Clear c y ∙ passing_at ls cycle law Clear c i y lt (omega arith) hi in
+      ap (clear (opened ls) c) q ∙ test_later ls cycle law (λ o. clear o c) (clear_at_tick c) (y - 1) ∙ test_at ls cycle law (λ o. clear o c) (clear_at_tick c) i (y - 1) lt (omega arith) (omega arith) in
+      let e₂ : clear (opened ls) c (suc (y + cycle - 1)) ≡ clear (alone (line ls i)) c 0 = test_next (λ o. clear o c) (clear_at_tick c) y ∙ test_at ls cycle law (λ o. clear o c) (clear_at_tick c) i y lt (omega arith) hi in
       elim (cases_Bool (clear (alone (line ls i)) c 0)) [
         | inl h ↦ and_left (not (clear (opened ls) c (y + cycle - 1))) _ (not_from_true (clear (opened ls) c (y + cycle - 1)) (e₁ ∙ h))
         | inr h ↦ and_right _ (clear (opened ls) c (suc (y + cycle - 1))) (e₂ ∙ h)
@@ -141,8 +136,8 @@ module _ (ls : List GateLine) (cycle : ℕ) (law : Lawful ls cycle) where
 
   -- all the slots that the first i lines give: no two lines that adjoin both begin a run
   few : (M : ℕ → ℕ) (c i : ℕ) → i ≤ length ls →
-      2 * (length (found true cycle (opened ls) M c (start ls i)) + length (found false cycle (opened ls) M c (start ls i))) ≤ i + bit (passing (opened ls) Clear c) (start ls i + cycle - 1)
-  unfolding found total passing
+      2 * (length (found true cycle (opened ls) M c (start ls i)) + length (found false cycle (opened ls) M c (start ls i))) ≤ i + bit (clear (opened ls) c) (start ls i + cycle - 1)
+  unfolding found total
   few M c zero le = omega arith
   few M c (suc i) le =
       let lt : i < length ls = omega arith in
@@ -157,24 +152,18 @@ module _ (ls : List GateLine) (cycle : ℕ) (law : Lawful ls cycle) where
       elim (cases_Bool (begins o c (a + cycle - 1))) [
         | inl h ↦
             let p = begins_parts o c (a + cycle - 1) h in
-            let x₀ = bit_no (passing o Clear c) (a + cycle - 1) (not_clear p.0) in
-            let x₁ = bit_yes (passing o Clear c) (start ls (suc i) + cycle - 1) (passing_last Clear c i lt ∙ sym (first (record { line = i; tick = a }) (record { there = lt; begun = refl }) Clear c) ∙ clear_then p.1) in
+            let x₀ = bit_no (clear o c) (a + cycle - 1) p.0 in
+            let x₁ = bit_yes (clear o c) (start ls (suc i) + cycle - 1) (test_last (λ o. clear o c) (clear_at_tick c) i lt ∙ sym (first (λ o. clear o c) (clear_at_tick c) i lt) ∙ p.1) in
             let s₁ = ap length (slot_at_there true cycle o M c a h) in
             let s₂ = ap length (slot_at_there false cycle o M c a h) in
             let one = one_slot cycle a (blocking o M c (a + cycle - 1)) (usable cycle o (M c) c (a + cycle - 1)) in
             omega arith
         | inr h ↦
-            let x₀ = bit_le (passing o Clear c) (a + cycle - 1) in
+            let x₀ = bit_le (clear o c) (a + cycle - 1) in
             let s₁ = ap length (slot_at_none true cycle o M c a h) in
             let s₂ = ap length (slot_at_none false cycle o M c a h) in
             omega arith
       ]
-    where
-      not_clear : clear (opened ls) c (start ls i + cycle - 1) ≡ false → passing (opened ls) Clear c (start ls i + cycle - 1) ≡ false
-      not_clear h = h
-
-      clear_then : clear (opened ls) c (suc (start ls i + cycle - 1)) ≡ true → passing (opened ls) Clear c (suc (start ls i + cycle - 1)) ≡ true
-      clear_then h = h
 
   -- a class has at most half as many slots as there can be lines
   pub found_few : (M : ℕ → ℕ) (c : ℕ) → length (found true cycle (opened ls) M c cycle) + length (found false cycle (opened ls) M c cycle) ≤ most_slots
@@ -183,6 +172,6 @@ module _ (ls : List GateLine) (cycle : ℕ) (law : Lawful ls cycle) where
       let e : start ls (length ls) ≡ cycle = start_all ls (length ls) (omega arith) ∙ law.together in
       let l₁ = ap (λ v. length (found true cycle (opened ls) M c v)) e in
       let l₂ = ap (λ v. length (found false cycle (opened ls) M c v)) e in
-      let x = bit_le (passing (opened ls) Clear c) (start ls (length ls) + cycle - 1) in
+      let x = bit_le (clear (opened ls) c) (start ls (length ls) + cycle - 1) in
       let n = law.few in
       omega arith

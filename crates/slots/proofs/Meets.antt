@@ -1,13 +1,16 @@
 -- The ticks that slots and lines have in common. Assumes nothing.
-use Rattle.std.proofs.Common.{◌≡◌, ℕ, zero, suc, ◌+◌, ◌-◌, ◌%◌, ◌<◌, ◌≤◌, max, Bool, true, false, ◌&&◌, ◌⊎◌, List, [], ◌∷◌, length, get_or, refl, ap, ◌∙◌, inl, inr, mod-eq_of_lt, arith}
+use Rattle.std.proofs.Common.{◌≡◌, ℕ, zero, suc, ◌+◌, ◌-◌, ◌%◌, ◌<◌, ◌≤◌, max, Bool, true, false, ◌&&◌, ◌⊎◌, List, [], ◌∷◌, length, get_or, Decides, sym, refl, ap, subst, ◌∙◌, inl, inr, mod-eq_of_lt, add-one, arith}
 use native.Mathlib.Nat.{add-mod_right}
 use Rattle.std.proofs.lemmas.Bool.{and_from, and_left, and_right, or_cases, or_left, or_right, both_ways, cases_Bool, cases_lt}
+use Rattle.std.proofs.lemmas.List.{get_or_default}
 use Rattle.std.proofs.ByRecursion.{All-get_or}
+use Rattle.std.specs.Bool.{MatchBool}
+use Rattle.std.specs.List.{HoldsAt, AllWithin}
 use Rattle.calculus.specs.Searches.{any}
 use Rattle.calculus.proofs.Bounded.{any_at, any_from}
 use Rattle.gates.specs.declared.gate_line.GateLine.{GateLine}
 use Rattle.gates.specs.Opened.{total, shows, opened, start, line, Lawful}
-use Rattle.gates.proofs.Lines.{start_next, start_more, start_all, start_most}
+use Rattle.gates.proofs.Lines.{start_next, start_all, start_most, refuted}
 use Rattle.sure_ticks.specs.declared.slot.Slot.{Slot}
 use Rattle.sure_ticks.specs.Slots.{slot}
 use Rattle.sure_ticks.specs.Sure.{since, in_slot, covered}
@@ -76,20 +79,30 @@ covered_at L (s ∷ ss) t (suc j) lt h = or_right (in_slot L s t) (covered L ss 
 
 -- slots that are apart, and the ticks from a to before b of the cycle
 module _ (L : ℕ) (ss : List Slot) (apart : Apart L ss) (a b : ℕ) (inside : b ≤ L) where
-  -- the first i slots have none of the ticks
-  abbrev Unmet : ℕ → Type 0
-  Unmet i = (j : ℕ) → j < i → (t : ℕ) → a ≤ t → t < b → in_slot L (get_or ss j (slot 0 0)) t ≡ false
-
   -- one of the ticks is in one of the slots
   abbrev Met : Type 0
   Met = (t : ℕ) × (a ≤ t) × (t < b) × (covered L ss t ≡ true)
 
   -- a slot fits
-  pub fits : (i : ℕ) → i < length ss → Fit L (get_or ss i (slot 0 0))
+  fits : (i : ℕ) → i < length ss → Fit L (get_or ss i (slot 0 0))
   fits i lt = All-get_or (Fit L) ss i (slot 0 0) lt (apart_fit L ss apart)
 
+  -- so its end is not far
+  pub end_most : (s : Slot) (i : ℕ) → (i < length ss) × (s ≡ get_or ss i s) → s.begin.0 + s.length.0 ≤ L + L
+  end_most s i w =
+      let f : Fit L s = subst (Fit L) (get_or_default ss i (slot 0 0) s w.0 ∙ sym w.1) (fits i w.0) in
+      omega (arith, f.0, f.2)
+
   -- a slot that begins before b and ends after a, in this cycle or the next
-  pub meets_here : (i : ℕ) → i < length ss → a < b → (((get_or ss i (slot 0 0)).begin.0 < b) × (a < (get_or ss i (slot 0 0)).begin.0 + (get_or ss i (slot 0 0)).length.0)) ⊎ (a + L < (get_or ss i (slot 0 0)).begin.0 + (get_or ss i (slot 0 0)).length.0) → Met
+  abbrev pub Reaches : Slot → Type 0
+  Reaches s = ((s.begin.0 < b) × (a < s.begin.0 + s.length.0)) ⊎ (a + L < s.begin.0 + s.length.0)
+
+  -- one that does neither
+  abbrev pub Misses : Slot → Type 0
+  Misses s = (((s.begin.0 < b) × (a < s.begin.0 + s.length.0)) → ⊥) × (s.begin.0 + s.length.0 ≤ a + L)
+
+  -- the first has one of the ticks
+  meets_here : (i : ℕ) → i < length ss → a < b → Reaches (get_or ss i (slot 0 0)) → Met
   meets_here i lt some (inl h) =
       let s : Slot = get_or ss i (slot 0 0) in
       let f : Fit L s = fits i lt in
@@ -98,24 +111,21 @@ module _ (L : ℕ) (ss : List Slot) (apart : Apart L ss) (a b : ℕ) (inside : b
   meets_here i lt some (inr h) =
       (a, omega arith, some, covered_at L ss a i lt (ends_then L (get_or ss i (slot 0 0)) (fits i lt) a (omega arith) h))
 
-  -- a slot that does neither has none of the ticks
-  pub meets_not : (i : ℕ) → i < length ss → (((get_or ss i (slot 0 0)).begin.0 < b) × (a < (get_or ss i (slot 0 0)).begin.0 + (get_or ss i (slot 0 0)).length.0) → ⊥) → (get_or ss i (slot 0 0)).begin.0 + (get_or ss i (slot 0 0)).length.0 ≤ a + L →
-      (t : ℕ) → a ≤ t → t < b → in_slot L (get_or ss i (slot 0 0)) t ≡ false
-  meets_not i lt now then t lo hi =
-      elim (cases_Bool (in_slot L (get_or ss i (slot 0 0)) t)) [
-        | inl h ↦
-            absurd (elim (in_ends L (get_or ss i (slot 0 0)) (fits i lt) t (omega arith) h) [
-              | inl e ↦ now (omega (arith, e.0), omega (arith, e.1))
-              | inr e ↦ omega arith
-            ])
-        | inr h ↦ h
+  -- the other has none
+  meets_not : (i : ℕ) → i < length ss → Misses (get_or ss i (slot 0 0)) → (t : ℕ) → a ≤ t → t < b → in_slot L (get_or ss i (slot 0 0)) t ≡ true → ⊥
+  meets_not i lt m t lo hi h =
+      elim (in_ends L (get_or ss i (slot 0 0)) (fits i lt) t (omega arith) h) [
+        | inl e ↦ m.0 (omega (arith, e.0), omega (arith, e.1))
+        | inr e ↦ absurd (omega (arith, m.1))
       ]
 
-  -- where no slot has any, none is met
-  pub never_met : (i : ℕ) → length ss ≤ i → Unmet i → Met → ⊥
-  never_met i le u m =
+  -- so whether some slot reaches tells whether one has one of the ticks
+  pub meets_told : a < b → (r : Bool) → MatchBool r ((i : ℕ) × (i < length ss) × HoldsAt Reaches ss i) (AllWithin Misses ss 0 (length ss)) → Decides r Met
+  meets_told some true w = (λ _. meets_here w.0 w.1 some (w.2 (slot 0 0)), λ _. refl)
+  meets_told some false w =
+      refuted Met (λ m.
       let r = covered_index L ss m.0 m.3 in
-      both_ways (in_slot L (get_or ss r.0 (slot 0 0)) m.0) (u r.0 (omega (arith, r.1)) m.0 m.1 m.2) r.2
+      meets_not r.0 r.1 (w r.0 (slot 0 0) (omega arith) r.1) m.0 m.1 m.2 r.2)
 
 -- the test of a tick: in a slot, and the class k is open
 abbrev pub both : ℕ → List GateLine → List Slot → ℕ → ℕ → Bool
@@ -142,30 +152,32 @@ module _ (L : ℕ) (ls : List GateLine) (law : Lawful ls L) (ss : List Slot) (k 
       ]
 
   -- one line
-  module _ (lt : i < length ls) where
+  module _ (lt : i < length ls) (l : GateLine) (q : l ≡ line ls i) where
+    -- where it ends
+    line_end : start ls (suc i) ≡ a + l.length.0
+    line_end = let n = start_next ls i lt in let e = ap (λ (v : GateLine). v.length.0) q in omega (arith, p.begun)
+
     -- it ends in the cycle
-    pub line_in : (0 < (line ls i).length.0) × (a + (line ls i).length.0 ≤ L)
-    line_in = let n = start_next ls i lt in let m = start_most ls (suc i) in (law.each i lt, omega (arith, law.together, p.begun))
+    pub line_in : (0 < l.length.0) × (a + l.length.0 ≤ L)
+    line_in = let m = start_most ls (suc i) in let e = ap (λ (v : GateLine). v.length.0) q in (omega (arith, law.each i lt), omega (arith, law.together, line_end))
+
+    -- at each of its ticks the class is as the line says
+    line_opened : (t : ℕ) → a ≤ t → t < a + l.length.0 → opened ls k t ≡ shows l k
+    line_opened t lo hi = opened_at ls L law k i t lt (omega (arith, p.begun)) (omega (arith, line_end)) ∙ sym (ap (λ v. shows v k) q)
 
     -- the class is open in it, and one of its ticks is in a slot
-    pub passed_yes : shows (line ls i) k ≡ true → (t : ℕ) × (a ≤ t) × (t < a + (line ls i).length.0) × (covered L ss t ≡ true) → any (both L ls ss k) L ≡ true
-    passed_yes h m =
-        let n = start_next ls i lt in
-        let e = opened_at ls L law k i m.0 lt (omega (arith, m.1, p.begun)) (omega (arith, m.2, p.begun)) in
-        any_from (both L ls ss k) L m.0 (omega (arith, m.2, line_in.1)) (and_from (covered L ss m.0) (opened ls k m.0) m.3 (e ∙ h))
+    pub passed_yes : shows l k ≡ true → (t : ℕ) × (a ≤ t) × (t < a + l.length.0) × (covered L ss t ≡ true) → any (both L ls ss k) L ≡ true
+    passed_yes h m = any_from (both L ls ss k) L m.0 (omega (arith, m.2, line_in.1)) (and_from (covered L ss m.0) (opened ls k m.0) m.3 (line_opened m.0 m.1 m.2 ∙ h))
 
     -- the class is shut in it, or none is
-    pub passed_more : (shows (line ls i) k ≡ false) ⊎ ((t : ℕ) × (a ≤ t) × (t < a + (line ls i).length.0) × (covered L ss t ≡ true) → ⊥) → Passed L ls ss k (i + 1) (a + (line ls i).length.0)
+    pub passed_more : (shows l k ≡ false) ⊎ ((t : ℕ) × (a ≤ t) × (t < a + l.length.0) × (covered L ss t ≡ true) → ⊥) → Passed L ls ss k (i + 1) (a + l.length.0)
     passed_more h =
         record {
-          begun = omega (arith, start_more ls i lt, p.begun);
+          begun = sym line_end ∙ ap (start ls) (sym (add-one i));
           none = λ t le. elim (cases_lt t a) [
             | inl early ↦ p.none t early
             | inr here ↦ elim h [
-              | inl shut ↦
-                  let n = start_next ls i lt in
-                  let e = opened_at ls L law k i t lt (omega (arith, p.begun)) (omega (arith, p.begun)) in
-                  and_right (covered L ss t) (opened ls k t) (e ∙ shut)
+              | inl shut ↦ and_right (covered L ss t) (opened ls k t) (line_opened t here le ∙ shut)
               | inr unmet ↦ elim (cases_Bool (covered L ss t)) [
                 | inl c ↦ absurd (unmet (t, here, le, c))
                 | inr c ↦ and_left (covered L ss t) (opened ls k t) c

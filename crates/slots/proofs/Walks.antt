@@ -1,30 +1,40 @@
 -- A walk over gate lines, told in ticks. Assumes nothing.
-use Rattle.std.proofs.Common.{◌≡◌, ℕ, zero, suc, ◌+◌, ◌-◌, ◌*◌, ◌%◌, ◌<◌, ◌≤◌, Bool, true, false, not, ◌&&◌, ltb, ◌⊎◌, List, [], ◌∷◌, length, vec_items, sym, ap, ◌∙◌, inl, inr, mod-eq_of_lt, arith}
+use Rattle.std.proofs.Common.{◌≡◌, ℕ, zero, suc, ◌+◌, ◌-◌, ◌*◌, ◌%◌, ◌<◌, ◌≤◌, Bool, true, false, not, ◌&&◌, ltb, ◌⊎◌, List, [], ◌∷◌, ◌++◌, length, get_or, take, drop, vec_items, Option, Some, None, Iter, sym, ap, ◌∙◌, subst, inl, inr, mod-eq_of_lt, arith}
 use Rattle.std.proofs.lemmas.Bool.{lt-ltb, ltb-true, and_left, and_right, and_from, cases_Bool, cases_lt, not_from_true, not_from_false}
+use Rattle.std.specs.Bool.{MatchBool}
+use Rattle.std.specs.List.{range_with_len, HoldsAt, AllWithin}
+use Rattle.std.proofs.lemmas.List.FromFn.{get_or-range_with_len}
+use Rattle.std.proofs.lemmas.List.{take-append-drop, get_or_default}
+use Rattle.std.proofs.lemmas.Iterator.{YieldsList, YieldsList-from_slice}
+use Rattle.std.proofs.lemmas.Iterator.Consumers.{YieldsList-from_chain, YieldsList-turn, YieldsList-end}
+use Rattle.std.proofs.iter.Yields.{fronts}
+use Rattle.std.specs.declared.iter.Chain.{Chain}
+use Rattle.std.specs.Iterator.{Yields}
+use Rattle.std.specs.Iterator.Adapters.{chain_first, chain_second, chain_first_done, chain_second_done, chain_steps}
+use Rattle.std.specs.Slice.Iter.{iter_rest}
+use denote.Ref.{Bor}
 use Rattle.units.specs.Limits.{classes}
 use Rattle.calculus.specs.Searches.{all, lasts}
 use Rattle.calculus.proofs.Bounded.{all_from, all_not}
-use Rattle.calculus.proofs.Lasts.{lasts_is, lasts_full, lasts_most, lasts_more, lasts_on, lasts_later, lasts_ever, lasts_fewer}
+use Rattle.calculus.proofs.Lasts.{lasts_is, lasts_full, lasts_most, lasts_more, lasts_ever, lasts_fewer}
 use Rattle.gates.specs.declared.gate_line.GateLine.{GateLine}
 use Rattle.gates.specs.declared.gate_list.GateList.{GateList}
 use Rattle.gates.specs.Opened.{total, shows, opened, start, line, Lawful}
-use Rattle.gates.proofs.Lines.{start_next, start_more, start_all, start_most, total_some, repeats, steady}
+use Rattle.gates.proofs.Lines.{start_next, start_all, start_most, total_some, repeats, steady}
 use Rattle.sure_ticks.specs.Runs.{clear}
 use Rattle.sure_ticks.proofs.Found.{clear_same}
-use Rattle.slots.specs.declared.walk.Test.{Test}
-use Rattle.slots.specs.declared.walk.Test.TheVariants.{Open, Clear}
-use Rattle.slots.specs.Walks.{passing, alone}
+use Rattle.slots.specs.Walks.{alone, AtTick}
 
 -- one line: a higher class is open
-pub clear_higher : (o : ℕ → ℕ → Bool) (c t h : ℕ) → c < h → h < classes → o h t ≡ true → passing o Clear c t ≡ false
-unfolding passing clear
+pub clear_higher : (o : ℕ → ℕ → Bool) (c t h : ℕ) → c < h → h < classes → o h t ≡ true → clear o c t ≡ false
+unfolding clear
 clear_higher o c t h lo hi e =
     and_right (o c t) (all (λ h. not (ltb c h && o h t)) classes)
     (all_not (λ h. not (ltb c h && o h t)) classes h hi (not_from_true (ltb c h && o h t) (and_from (ltb c h) (o h t) (lt-ltb c h lo) e)))
 
 -- one line: every higher class is shut
-pub clear_if : (o : ℕ → ℕ → Bool) (c t : ℕ) → ((h : ℕ) → h < classes → c < h → o h t ≡ false) → passing o Clear c t ≡ o c t
-unfolding passing clear
+pub clear_if : (o : ℕ → ℕ → Bool) (c t : ℕ) → ((h : ℕ) → h < classes → c < h → o h t ≡ false) → clear o c t ≡ o c t
+unfolding clear
 clear_if o c t hs =
     let a : all (λ h. not (ltb c h && o h t)) classes ≡ true =
     all_from (λ h. not (ltb c h && o h t)) classes (λ h lt.
@@ -38,19 +48,23 @@ clear_if o c t hs =
       | inr e ↦ and_left (o c t) (all (λ h. not (ltb c h && o h t)) classes) e ∙ sym e
     ]
 
--- two gates that agree at a tick, class by class, pass alike
-passing_same : (o p : ℕ → ℕ → Bool) (b : Test) (c t u : ℕ) → ((k : ℕ) → o k t ≡ p k u) → passing o b c t ≡ passing p b c u
-unfolding passing
-passing_same o p Clear c t u h = clear_same o p c t u h
-passing_same o p Open c t u h = h c
+-- one line: whether some class is higher and open tells whether the class is clear
+pub clear_told : (l : GateLine) (c : ℕ) (b : Bool) → MatchBool b ((k : ℕ) × (k < length (range_with_len 0 8)) × HoldsAt (λ h. (c < h) × (shows l h ≡ true)) (range_with_len 0 8) k)
+    (AllWithin (λ h. c < h → shows l h ≡ false) (range_with_len 0 8) 0 (length (range_with_len 0 8))) → clear (alone l) c 0 ≡ (not b && shows l c)
+clear_told l c true w =
+    let q = get_or-range_with_len 0 8 w.0 0 w.1 in
+    clear_higher (alone l) c 0 (get_or (range_with_len 0 8) w.0 0) (w.2 0).0 (omega (arith, w.1)) (w.2 0).1
+clear_told l c false w =
+    clear_if (alone l) c 0
+    (λ h lt lo. let q = get_or-range_with_len 0 8 h 0 lt in let e : get_or (range_with_len 0 8) h 0 ≡ h = omega arith in subst (λ v. c < v → shows l v ≡ false) e (w h 0 (omega arith) lt) lo)
 
--- no line begins before an earlier one
-start_mono : (ls : List GateLine) (i j : ℕ) → i ≤ j → start ls i ≤ start ls j
-unfolding total
-start_mono ls zero j le = omega arith
-start_mono ls (suc i) zero le = absurd (omega arith)
-start_mono [] (suc i) (suc j) le = omega arith
-start_mono (l ∷ ls) (suc i) (suc j) le = let r = start_mono ls i j (omega arith) in omega arith
+-- that a class is open, or clear, shows at the tick
+pub open_at_tick : (c : ℕ) → AtTick (λ o. o c)
+open_at_tick c = record { same = λ o p t u h. h c }
+
+-- the other test
+pub clear_at_tick : (c : ℕ) → AtTick (λ o. clear o c)
+clear_at_tick c = record { same = λ o p t u h. clear_same o p c t u h }
 
 -- a gate list
 module _ (ls : List GateLine) (cycle : ℕ) (law : Lawful ls cycle) where
@@ -66,10 +80,6 @@ module _ (ls : List GateLine) (cycle : ℕ) (law : Lawful ls cycle) where
   pub opened_later : (k t : ℕ) → opened ls k (t + cycle) ≡ opened ls k t
   opened_later k t = let e : t + cycle ≡ t + 1 * cycle = omega arith in ap (opened ls k) e ∙ repeats ls k t 1 cycle law.together
 
-  -- and so does the test
-  pub passing_later : (b : Test) (c t : ℕ) → passing (opened ls) b c (t + cycle) ≡ passing (opened ls) b c t
-  passing_later b c t = passing_same (opened ls) (opened ls) b c (t + cycle) t (λ k. opened_later k t)
-
   -- at each tick of a line the gates stand as the line says
   pub opened_at : (k i t : ℕ) → i < length ls → start ls i ≤ t → t < start ls (suc i) → opened ls k t ≡ shows (line ls i) k
   opened_at k i t lt a b =
@@ -77,105 +87,171 @@ module _ (ls : List GateLine) (cycle : ℕ) (law : Lawful ls cycle) where
       let e : t % cycle ≡ t = mod-eq_of_lt (omega (arith, law.together)) in
       steady ls k i t cycle law.together (record { there = lt; begun = omega arith; ends = omega arith })
 
-  -- and so the test comes out as it does in the line
-  pub passing_at : (b : Test) (c i t : ℕ) → i < length ls → start ls i ≤ t → t < start ls (suc i) → passing (opened ls) b c t ≡ passing (alone (line ls i)) b c 0
-  passing_at b c i t lt s e = passing_same (opened ls) (alone (line ls i)) b c t 0 (λ k. opened_at k i t lt s e)
+  -- a test of the gates at a tick
+  module _ (test : (ℕ → ℕ → Bool) → ℕ → Bool) (at : AtTick test) where
+    -- it repeats with the cycle too
+    pub test_later : (t : ℕ) → test (opened ls) (t + cycle) ≡ test (opened ls) t
+    test_later t = at.same (opened ls) (opened ls) (t + cycle) t (λ k. opened_later k t)
+
+    -- at each tick of a line it comes out as it does in the line
+    pub test_at : (i t : ℕ) → i < length ls → start ls i ≤ t → t < start ls (suc i) → test (opened ls) t ≡ test (alone (line ls i)) 0
+    test_at i t lt s e = at.same (opened ls) (alone (line ls i)) t 0 (λ k. opened_at k i t lt s e)
 
 -- what a gate list keeps to
 pub law_of : (g : GateList) → Lawful (vec_items g.lines) g.cycle.0
 law_of g = record { each = g.each; together = g.together; some = g.some; few = g.few; most = g.most }
 
--- the walk has come from the line `from` to the line i, over so many ticks, which all pass
-pub record Walked (ls : List GateLine) (b : Test) (c from i ticks : ℕ) : Type 0 where
-  pub upto : start ls from + ticks ≡ start ls i
-  pub pass : (y : ℕ) → start ls from ≤ y → y < start ls i → passing (opened ls) b c y ≡ true
+-- the lines that a loop reads are the list's
+pub lines_same : (xs : List GateLine) (g h : GateList) → xs ≡ vec_items g.lines → g ≡ h → xs ≡ vec_items h.lines
+lines_same xs g h e f = e ∙ ap (λ (v : GateList). vec_items v.lines) f
 
--- it begins with no tick
-pub walk_none : (ls : List GateLine) (b : Test) (c from : ℕ) → Walked ls b c from from 0
-walk_none ls b c from = record { upto = omega arith; pass = λ y a e. absurd (omega arith) }
+-- lines and then lines
+total_append : (xs ys : List GateLine) → total (xs ++ ys) ≡ total xs + total ys
+unfolding total
+total_append [] ys = omega arith
+total_append (l ∷ xs) ys = let r = total_append xs ys in omega arith
 
--- it comes to all the lines up to `to`
-pub walk_all : (ls : List GateLine) (b : Test) (c from to ticks : ℕ) → Walked ls b c from to ticks → ticks ≡ lasts (passing (opened ls) b c) (start ls from) (start ls to - start ls from)
-walk_all ls b c from to ticks w =
-    let u = w.upto in
-    let q : ticks ≡ start ls to - start ls from = omega arith in
-    q ∙ sym (lasts_full (passing (opened ls) b c) (start ls to - start ls from) (start ls from) (λ y a z. w.pass y a (omega arith)))
+-- a test of ticks, and of lines
+module _ (f : ℕ → Bool) (b : GateLine → Bool) where
+  -- from the tick a on, the lines follow one another, and at each of its ticks a line passes or fails as a whole
+  abbrev pub Along : ℕ → List GateLine → Type 0
+  Along a [] = Unit {0}
+  Along a (l ∷ ls) = (1 ≤ l.length.0) × ((t : ℕ) → a ≤ t → t < a + l.length.0 → f t ≡ b l) × Along (a + l.length.0) ls
 
--- one step of it
-module _ (ls : List GateLine) (cycle : ℕ) (law : Lawful ls cycle) (b : Test) (c from i ticks : ℕ) (lt : i < length ls) (w : Walked ls b c from i ticks) where
-  -- the sum stays small
-  pub walk_fits : ticks + (line ls i).length.0 ≤ cycle
-  walk_fits = let n = start_next ls i lt in let m = start_most ls (suc i) in omega (arith, law.together, w.upto)
-
-  -- the line passes
-  pub walk_more : passing (alone (line ls i)) b c 0 ≡ true → Walked ls b c from (i + 1) (ticks + (line ls i).length.0)
-  walk_more e =
-      let n = start_next ls i lt in
-      let m = start_more ls i lt in
-      record {
-        upto = omega (arith, w.upto);
-        pass = λ y a z. elim (cases_lt y (start ls i)) [
-          | inl early ↦ w.pass y a early
-          | inr late ↦ passing_at ls cycle law b c i y lt late (omega arith) ∙ e
-        ];
-      }
-
-  -- the line does not
-  pub walk_stop : (to : ℕ) → i < to → passing (alone (line ls i)) b c 0 ≡ false → ticks ≡ lasts (passing (opened ls) b c) (start ls from) (start ls to - start ls from)
-  walk_stop to le e =
-      let n = start_next ls i lt in
-      let p = law.each i lt in
-      let m = start_mono ls i to (omega arith) in
-      let u = w.upto in
-      let q : passing (opened ls) b c (start ls from + ticks) ≡ false = ap (passing (opened ls) b c) u ∙ passing_at ls cycle law b c i (start ls i) lt (omega arith) (omega arith) ∙ e in
-      sym (lasts_is (passing (opened ls) b c) (start ls to - start ls from) (start ls from) ticks (omega arith) (λ y a z. w.pass y a (omega arith)) q)
-
--- two walks make a round: to the last line's end and, if all of that passes, from the first line's beginning
-module _ (ls : List GateLine) (cycle : ℕ) (law : Lawful ls cycle) (b : Test) (c from a first n : ℕ) (e : a ≡ start ls from) (end : length ls ≤ n)
-    (h : first ≡ lasts (passing (opened ls) b c) (start ls from) (start ls n - start ls from)) where
-  -- the first walk, from the tick a
-  round_first : first ≡ lasts (passing (opened ls) b c) a (cycle - a)
-  round_first =
-      let all : start ls n ≡ cycle = start_all ls n end ∙ law.together in
-      let k : start ls n - start ls from ≡ cycle - a = omega arith in
-      h ∙ ap (λ v. lasts (passing (opened ls) b c) (start ls from) v) k ∙ ap (λ v. lasts (passing (opened ls) b c) v (cycle - a)) (sym e)
-
-  -- it stops before the end
-  pub round_short : first < cycle - a → first ≡ lasts (passing (opened ls) b c) a cycle
-  round_short lt = let g = round_first in g ∙ sym (lasts_more (passing (opened ls) b c) (cycle - a) a cycle (omega arith) (omega arith))
-
-  -- it does not, and a second walk comes to the tick a again
-  pub round_long : cycle - a ≤ first → (second : ℕ) → second ≡ lasts (passing (opened ls) b c) (start ls 0) (start ls from - start ls 0) →
-      (first + second ≡ lasts (passing (opened ls) b c) a cycle) × (first + second ≤ cycle)
+  -- told by the numbers of the lines
+  along_each : (ls : List GateLine) (a : ℕ) → ((i : ℕ) → i < length ls → 1 ≤ (line ls i).length.0)
+      → ((i t : ℕ) → i < length ls → a + start ls i ≤ t → t < a + start ls (suc i) → f t ≡ b (line ls i)) → Along a ls
   unfolding total
-  round_long le second h₂ =
-      let f : ℕ → Bool = passing (opened ls) b c in
-      let sum = law.together in
-      let m = start_most ls from in
-      let g : first ≡ lasts f a (cycle - a) = round_first in
-      let most = lasts_most f (cycle - a) a in
-      let full : lasts f a (cycle - a) ≡ cycle - a = omega arith in
-      let on = lasts_on f (cycle - a) a a full in
-      let e₁ : cycle - a + a ≡ cycle = omega arith in
-      let e₂ : a + (cycle - a) ≡ 0 + cycle = omega arith in
-      let e₃ : start ls from - 0 ≡ a = omega arith in
-      let s : lasts f (a + (cycle - a)) a ≡ lasts f 0 a = ap (λ v. lasts f v a) e₂ ∙ lasts_later cycle f (passing_later ls cycle law b c) 0 a in
-      let t : second ≡ lasts f 0 a = h₂ ∙ ap (λ v. lasts f 0 v) e₃ in
-      let all : lasts f a (cycle - a + a) ≡ lasts f a cycle = ap (λ v. lasts f a v) e₁ in
-      let most₂ = lasts_most f a 0 in
-      (omega arith, omega arith)
+  along_each [] a each at = tt
+  along_each (l ∷ ls) a each at = (
+    each 0 (omega arith),
+    λ t lo hi. at 0 t (omega arith) (omega arith) (omega arith),
+    along_each ls (a + l.length.0) (λ i lt. each (suc i) (omega arith)) (λ i t lt lo hi. at (suc i) t (omega arith) (omega arith) (omega arith)),
+  )
+
+  -- lines and then lines, from both
+  along_append : (xs ys : List GateLine) (a : ℕ) → Along a xs → Along (a + total xs) ys → Along a (xs ++ ys)
+  unfolding total
+  along_append [] ys a u v = let e : a + 0 ≡ a = omega arith in subst (λ n. Along n ys) e v
+  along_append (l ∷ xs) ys a u v =
+      let e : a + (l.length.0 + total xs) ≡ a + l.length.0 + total xs = omega arith in
+      (u.0, u.1, along_append xs ys (a + l.length.0) u.2 (subst (λ n. Along n ys) e v))
+
+  -- and both from them
+  along_split : (xs ys : List GateLine) (a : ℕ) → Along a (xs ++ ys) → Along a xs × Along (a + total xs) ys
+  unfolding total
+  along_split [] ys a u = let e : a ≡ a + 0 = omega arith in (tt, subst (λ n. Along n ys) e u)
+  along_split (l ∷ xs) ys a u =
+      let r = along_split xs ys (a + l.length.0) u.2 in
+      let e : a + l.length.0 + total xs ≡ a + (l.length.0 + total xs) = omega arith in
+      ((u.0, u.1, r.0), subst (λ n. Along n ys) e r.1)
+
+  -- a cycle later, if the test of ticks repeats
+  along_later : (L : ℕ) → ((t : ℕ) → f (t + L) ≡ f t) → (xs : List GateLine) (a : ℕ) → Along a xs → Along (a + L) xs
+  along_later L later [] a u = tt
+  along_later L later (l ∷ xs) a u =
+      let e : a + l.length.0 + L ≡ a + L + l.length.0 = omega arith in (
+        u.0,
+        λ t lo hi. let q : t ≡ t - L + L = omega arith in ap f q ∙ later (t - L) ∙ u.1 (t - L) (omega arith) (omega arith),
+        subst (λ n. Along n xs) e (along_later L later xs (a + l.length.0) u.2),
+      )
+
+  -- up to a line before which all pass, each tick does
+  along_upto : (xs : List GateLine) (a i : ℕ) → Along a xs → ((j : ℕ) → j < i → j < length xs → b (line xs j) ≡ true) → (t : ℕ) → a ≤ t → t < a + start xs i → f t ≡ true
+  unfolding total
+  along_upto xs a zero u h t lo hi = absurd (omega arith)
+  along_upto [] a (suc i) u h t lo hi = absurd (omega arith)
+  along_upto (l ∷ xs) a (suc i) u h t lo hi =
+      elim (cases_lt t (a + l.length.0)) [
+        | inl here ↦ u.1 t lo here ∙ h 0 (omega arith) (omega arith)
+        | inr past ↦ along_upto xs (a + l.length.0) i u.2 (λ j lt there. h (suc j) (omega arith) (omega arith)) t past (omega arith)
+      ]
+
+  -- and the line's first tick is as the line
+  along_at : (xs : List GateLine) (a i : ℕ) → i < length xs → Along a xs → (f (a + start xs i) ≡ b (line xs i)) × (start xs i < total xs)
+  unfolding total
+  along_at [] a i lt u = absurd (omega arith)
+  along_at (l ∷ xs) a zero lt u = (u.1 (a + 0) (omega arith) (omega (arith, u.0)), omega (arith, u.0))
+  along_at (l ∷ xs) a (suc i) lt u =
+      let r = along_at xs (a + l.length.0) i (omega arith) u.2 in
+      let e : a + (l.length.0 + start xs i) ≡ a + l.length.0 + start xs i = omega arith in
+      (ap f e ∙ r.0, omega (arith, r.1))
+
+-- the lines from the line n to the last, and then from the first on
+abbrev pub round : List GateLine → ℕ → List GateLine
+round ls n = drop n ls ++ take n ls
+
+-- an iterator that gives them
+module _ (ls : List GateLine) (n : ℕ) (s : Chain (Iter GateLine) (Iter GateLine)) (a : iter_rest (chain_first s) ≡ drop n ls) (b : iter_rest (chain_second s) ≡ take n ls) (c : chain_first_done s ≡ false)
+    (d : chain_second_done s ≡ false) where
+  -- it gives them all
+  round_road : YieldsList (chain_steps fronts fronts) (λ (l : Bor GateLine). l.now) s (round ls n)
+  round_road = YieldsList-from_chain (YieldsList-from_slice (drop n ls) a) (YieldsList-from_slice (take n ls) b) c d
+
+  -- the next of them, after some
+  pub round_turn : (xs : List (Bor GateLine)) (t u : Chain (Iter GateLine) (Iter GateLine)) → Yields (chain_steps fronts fronts) s xs t
+      → (r : Option (Bor GateLine)) (l : Bor GateLine) → r ≡ Some l → chain_steps fronts fronts t r u → (length xs < length (round ls n)) × (l.now ≡ line (round ls n) (length xs))
+  round_turn xs t u y r l e f =
+      let w = YieldsList-turn round_road xs t y r u l e f in
+      (w.0, w.1 ∙ get_or_default (round ls n) (length xs) _ _ w.0)
+
+  -- none is left
+  pub round_end : (xs : List (Bor GateLine)) (t u : Chain (Iter GateLine) (Iter GateLine)) → Yields (chain_steps fronts fronts) s xs t
+      → (r : Option (Bor GateLine)) → r ≡ None → chain_steps fronts fronts t r u → length (round ls n) ≤ length xs
+  round_end xs t u y r e f = let w = YieldsList-end round_road xs t y r u e f in omega (arith, w.1)
+
+module _ (ls : List GateLine) (cycle : ℕ) (law : Lawful ls cycle) (n : ℕ) where
+  -- together they last the cycle
+  pub round_total : total (round ls n) ≡ cycle
+  round_total = let e = ap total (take-append-drop n ls) in let p = total_append (take n ls) (drop n ls) in let q = total_append (drop n ls) (take n ls) in omega (arith, law.together)
+
+  -- a walk has come past the first i of them in so many ticks
+  pub round_fits : (i : ℕ) → i < length (round ls n) → start (round ls n) (suc i) ≤ cycle
+  round_fits i lt = let m = start_most (round ls n) (suc i) in omega (arith, round_total)
+
+  module _ (test : (ℕ → ℕ → Bool) → ℕ → Bool) (at : AtTick test) where
+    -- they follow one another from the beginning of the line n on
+    round_along : Along (test (opened ls)) (λ l. test (alone l) 0) (start ls n) (round ls n)
+    round_along =
+        let f : ℕ → Bool = test (opened ls) in
+        let b : GateLine → Bool = λ l. test (alone l) 0 in
+        let u : Along f b 0 ls = along_each f b ls 0 law.each (λ i t lt lo hi. test_at ls cycle law test at i t lt (omega arith) (omega arith)) in
+        let v : Along f b 0 (take n ls ++ drop n ls) = subst (Along f b 0) (sym (take-append-drop n ls)) u in
+        let w = along_split f b (take n ls) (drop n ls) 0 v in
+        let e : 0 + total (take n ls) ≡ start ls n = omega arith in
+        let d : Along f b (start ls n) (drop n ls) = subst (λ a. Along f b a (drop n ls)) e w.1 in
+        let p = ap total (take-append-drop n ls) in
+        let q = total_append (take n ls) (drop n ls) in
+        let z : 0 + cycle ≡ start ls n + total (drop n ls) = omega (arith, law.together) in
+        let t : Along f b (start ls n + total (drop n ls)) (take n ls) = subst (λ a. Along f b a (take n ls)) z (along_later f b cycle (test_later ls cycle law test at) (take n ls) 0 w.0) in
+        along_append f b (drop n ls) (take n ls) (start ls n) d t
+
+    -- one of them fails and all before it pass: the test lasts up to it
+    pub round_stop : (i : ℕ) → i < length (round ls n) → ((j : ℕ) → j < i → test (alone (line (round ls n) j)) 0 ≡ true) → test (alone (line (round ls n) i)) 0 ≡ false
+        → start (round ls n) i ≡ lasts (test (opened ls)) (start ls n) cycle
+    round_stop i lt h fails =
+        let r = along_at (test (opened ls)) (λ l. test (alone l) 0) (round ls n) (start ls n) i lt round_along in
+        sym (lasts_is (test (opened ls)) cycle (start ls n) (start (round ls n) i) (omega (arith, r.1, round_total))
+        (λ t lo hi. along_upto (test (opened ls)) (λ l. test (alone l) 0) (round ls n) (start ls n) i round_along (λ j l _. h j l) t lo hi)
+        (r.0 ∙ fails))
+
+    -- all of them pass: it lasts the cycle
+    pub round_all : (i : ℕ) → length (round ls n) ≤ i → ((j : ℕ) → j < i → test (alone (line (round ls n) j)) 0 ≡ true)
+        → start (round ls n) i ≡ lasts (test (opened ls)) (start ls n) cycle
+    round_all i le h =
+        let e : start (round ls n) i ≡ cycle = start_all (round ls n) i le ∙ round_total in
+        e ∙ sym (lasts_full (test (opened ls)) cycle (start ls n)
+        (λ t lo hi. along_upto (test (opened ls)) (λ l. test (alone l) 0) (round ls n) (start ls n) i round_along (λ j l _. h j l) t lo (omega arith)))
 
 -- how long a class stays open with any limit, from how long it does within a cycle
-module _ (ls : List GateLine) (cycle : ℕ) (law : Lawful ls cycle) (k a n limit : ℕ) (h : n ≡ lasts (passing (opened ls) Open k) a cycle) where
+module _ (ls : List GateLine) (cycle : ℕ) (law : Lawful ls cycle) (k a n limit : ℕ) (h : n ≡ lasts (opened ls k) a cycle) where
   -- it stays open for the limit or longer
   pub limit_most : (n ≡ cycle) ⊎ ((n ≡ cycle → ⊥) × (limit < n)) → limit ≡ lasts (opened ls k) a limit
-  unfolding passing
   limit_most (inl e) = sym (lasts_ever cycle (opened ls k) (opened_later ls cycle law k) (cycle_some ls cycle law) a limit (sym h ∙ e))
   limit_most (inr e) = sym (lasts_fewer (opened ls k) cycle a limit (omega (arith, e.1)))
 
   -- it shuts before
   pub limit_less : (n ≡ cycle → ⊥) → n ≤ limit → n ≡ lasts (opened ls k) a limit
-  unfolding passing
   limit_less ne le =
       let most = lasts_most (opened ls k) cycle a in
       let lt : lasts (opened ls k) a cycle < cycle = omega arith in

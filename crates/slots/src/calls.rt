@@ -2,19 +2,19 @@
 ghost use Rattle.std.specs.Prelude.{◌≡◌, ◌*◌, ◌<◌, ◌≤◌, ◌++◌, length, drop, MatchResult};
 ghost use Rattle.std.specs.List.{AllByRecursion};
 ghost use Rattle.units.specs.Limits.{most_cycle, most_slots};
-ghost use Rattle.units.specs.declared.refusal.Refusal.TheVariants.{NoClass};
+ghost use Rattle.units.specs.Classes.{ByClass};
 ghost use Rattle.plan.specs.PlanContents.{contents};
 ghost use Rattle.sure_ticks.specs.Sure.{lengths};
 ghost use Rattle.slots.specs.OfPlan.{slots_of, sure_ticks_of, block_of};
 ghost use Rattle.slots.specs.Turns.{turns, Small, Refused};
 
 use crate::blocking::FramesInSlots;
+use crate::find::find;
 use crate::lower::greatest_below;
-use crate::slot_list::SlotList;
 use plan::Plan;
 use sure_ticks::Slot;
 use units::limits::MAX_SLOTS;
-use units::{Refusal, Ticks};
+use units::{Class, Refusal, Ticks};
 
 // A list that slots are written into has at least this many numbers: two for each slot that there can be.
 pub const MIN_LIST: usize = 2 * MAX_SLOTS;
@@ -28,28 +28,31 @@ pub fn slots(plan: &Plan, class: u8, list: &mut [u32]) -> Result<usize, Refusal>
         × (list.new ≡ turns (slots_of (contents plan.now) class) ++ drop (2 * n) list.old))
         (λ e. (list.new ≡ list.old) × Refused class (length list.old) e) }
 {
-    let found = SlotList::of(plan, class)?;
+    let class = Class::try_from(class)?;
     if list.len() < MIN_LIST {
         return Err(Refusal::SlotSpace);
     }
+    let found = find(plan, class);
     write(found.as_slice(), list);
     Ok(found.len())
 }
 
 // How many ticks of a cycle are sure for a class. Refused where there is no such class.
 pub fn sure(plan: &Plan, class: u8) -> Result<Ticks, Refusal>
-    ensures { MatchResult result (λ n. (class ≤ 7) × (n.0 ≡ sure_ticks_of (contents plan.now) class)) (λ e. (7 < class) × (e ≡ NoClass)) }
+    ensures { ByClass class result (λ n. n.0 ≡ sure_ticks_of (contents plan.now) class) }
 {
-    let found = SlotList::of(plan, class)?;
+    let class = Class::try_from(class)?;
+    let found = find(plan, class);
     Ok(Ticks(total_length(found.as_slice())))
 }
 
 // The block of a class: how much of a lower frame can be on the wire when a busy period of the class begins. Refused where there is
 // no such class.
 pub fn block(plan: &Plan, class: u8) -> Result<Ticks, Refusal>
-    ensures { MatchResult result (λ n. (class ≤ 7) × (n.0 ≡ block_of (contents plan.now) class)) (λ e. (7 < class) × (e ≡ NoClass)) }
+    ensures { ByClass class result (λ n. n.0 ≡ block_of (contents plan.now) class) }
 {
-    let found = SlotList::of(plan, class)?;
+    let class = Class::try_from(class)?;
+    let found = find(plan, class);
     let frames = FramesInSlots {
         plan,
         slots: found.as_slice(),
@@ -63,11 +66,10 @@ fn write(slots: &[Slot], list: &mut [u32])
     requires small { AllByRecursion Small slots.now }
     ensures { list.new ≡ turns slots.now ++ drop (2 * length slots.now) list.old }
 {
-    let mut at = 0;
-    for slot in slots {
-        list[at] = slot.begin.0 as u32;
-        list[at + 1] = slot.length.0 as u32;
-        at += 2;
+    // Of a list that was lent in chunks to be written, a proof knows only the length: so each place is reached by its index.
+    for (i, slot) in slots.iter().enumerate() {
+        list[2 * i] = slot.begin.0 as u32;
+        list[2 * i + 1] = slot.length.0 as u32;
     }
 }
 
@@ -76,9 +78,5 @@ fn total_length(slots: &[Slot]) -> u64
     requires { lengths slots.now ≤ most_cycle }
     ensures { result ≡ lengths slots.now }
 {
-    let mut sum = 0u64;
-    for slot in slots {
-        sum += slot.length.0;
-    }
-    sum
+    slots.iter().map(|slot| slot.length.0).sum()
 }

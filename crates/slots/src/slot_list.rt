@@ -7,7 +7,8 @@ use units::limits::MAX_SLOTS;
 
 mod calls;
 
-// The first `count` of the slots count; there is room for as many as a class can have.
+// The first `count` of the slots count; there is room for as many as a class can have. An `ArrayVec` would need no count, but it is
+// not `Copy` as this list is: who copies a list would have to clone it, and a clone is a `Result`.
 #[derive(Clone, Copy)]
 pub struct SlotList {
     slots: [Slot; MAX_SLOTS],

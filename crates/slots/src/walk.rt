@@ -1,89 +1,98 @@
-// A walk over gate lines: for how many ticks in a row a class is open, or clear. It adds up the lengths of lines, and never looks
-// at single ticks.
-ghost use Rattle.std.specs.Prelude.{◌≡◌, ◌-◌, ◌<◌, ◌≤◌, length};
+// A walk over the gate lines of a plan from the beginning of one of them: for how many ticks in a row a class is open, or clear. It
+// adds up the lengths of lines, and never looks at single ticks.
+ghost use Rattle.std.specs.Prelude.{◌≡◌, ℕ, ◌<◌, Bool, length};
+ghost use Rattle.std.specs.Fn.{FnReturnsAt};
 ghost use Rattle.calculus.specs.Searches.{lasts};
-ghost use Rattle.gates.specs.Opened.{opened, start};
-ghost use Rattle.slots.specs.Walks.{passing, alone, Stands};
+ghost use Rattle.gates.specs.Opened.{opened, start, line};
+ghost use Rattle.sure_ticks.specs.Runs.{clear};
+ghost use Rattle.slots.specs.Walks.{alone, previous, AtTick, Answers};
 
-use gates::{GateLine, GateList};
+use gates::GateLine;
+use plan::Plan;
+use units::Class;
 
-// What is asked of a class: that it is open, or that it is clear, with every higher class shut.
-#[derive(Clone, Copy)]
-pub(crate) enum Test {
-    Open,
-    Clear,
-}
-
-// A line, and the tick at which it begins.
-#[derive(Clone, Copy)]
-pub(crate) struct LineStart {
-    pub(crate) line: usize,
+// A line of a plan's gate list, and the tick at which it begins.
+#[derive(Drop)]
+pub(crate) struct LineStart<'a> {
+    pub(crate) plan: &'a Plan,
+    pub(crate) index: usize,
     pub(crate) tick: u64,
+    ghost there: { index < length plan.now.gates.lines.items },
+    ghost begun: { tick ≡ start plan.now.gates.lines.items index },
 }
 
-// Whether the class passes the test in the line.
-pub(crate) fn passes(line: &GateLine, class: u8, test: Test) -> bool
-    ensures { result ≡ passing (alone line.now) test class 0 }
-{
-    match test {
-        Test::Open => line.is_open(class),
-        Test::Clear => is_clear(line, class),
+impl<'a> LineStart<'a> {
+    // The line.
+    pub(crate) fn line(&self) -> &GateLine
+        ensures { result.now ≡ line self.now.plan.now.gates.lines.items self.now.index }
+    {
+        &self.plan.gates().lines()[self.index]
+    }
+
+    // The line before it: the last comes before the first.
+    pub(crate) fn line_before(&self) -> &GateLine
+        ensures { result.now ≡ line self.now.plan.now.gates.lines.items (previous (length self.now.plan.now.gates.lines.items) self.now.index) }
+    {
+        let lines = self.plan.gates().lines();
+        let before = if self.index > 0 {
+            self.index - 1
+        } else {
+            lines.len() - 1
+        };
+        &lines[before]
+    }
+
+    // The ticks after which the gate list begins again.
+    pub(crate) fn cycle(&self) -> u64
+        ensures { result ≡ self.now.plan.now.gates.cycle.0 }
+    {
+        self.plan.gates().cycle().0
+    }
+
+    // How many ticks in a row the class is clear from the line's beginning on, a cycle at the most.
+    pub(crate) fn clear_for(&self, class: Class) -> u64
+        ensures { result ≡ lasts (clear (opened self.now.plan.now.gates.lines.items) class.number) self.now.tick self.now.plan.now.gates.cycle.0 }
+    {
+        self.lasting(|line| is_clear(line, class))
+    }
+
+    // How many ticks in a row the class is open from the line's beginning on, `limit` at the most.
+    pub(crate) fn open_for(&self, class: Class, limit: u64) -> u64
+        ensures { result ≡ lasts (opened self.now.plan.now.gates.lines.items class.number) self.now.tick limit }
+    {
+        let number = u8::from(class);
+        let ticks = self.lasting(|line| line.is_open(number));
+        if ticks == self.cycle() || limit < ticks {
+            limit
+        } else {
+            ticks
+        }
+    }
+
+    // How many ticks pass in a row from the line's beginning on, a cycle at the most: the lengths of the lines that pass, from this
+    // one to the last and then from the first on.
+    fn lasting<F: Fn(&GateLine) -> bool>(&self, passes: F) -> u64
+        requires { F.IsAlwaysCallable passes }
+        ensures { (test : (ℕ → ℕ → Bool) → ℕ → Bool) → AtTick test → Answers (FnReturnsAt F.Fn passes) test
+            → result ≡ lasts (test (opened self.now.plan.now.gates.lines.items)) self.now.tick self.now.plan.now.gates.cycle.0 }
+    {
+        let (before, rest) = self.plan.gates().lines().split_at(self.index);
+        let mut ticks = 0;
+        for line in rest.iter().chain(before.iter()) {
+            if !passes(line) {
+                return ticks;
+            }
+            ticks += line.length.0;
+        }
+        ticks
     }
 }
 
 // Whether the class is open in the line and every higher class is shut.
-fn is_clear(line: &GateLine, class: u8) -> bool
-    ensures { result ≡ passing (alone line.now) Test.Clear class 0 }
+pub(crate) fn is_clear(line: &GateLine, class: Class) -> bool
+    ensures { result ≡ clear (alone line.now) class.number 0 }
 {
-    for higher in 0..8u8 {
-        if higher > class && line.is_open(higher) {
-            return false;
-        }
-    }
-    line.is_open(class)
-}
-
-// How many ticks pass in a row, from the line `from` on, before the line `to`.
-fn walk(gates: &GateList, class: u8, test: Test, from: usize, to: usize) -> u64
-    requires order { from ≤ to }
-    requires there { to ≤ length gates.now.lines.items }
-    ensures { result ≡ lasts (passing (opened gates.now.lines.items) test class) (start gates.now.lines.items from)
-        (start gates.now.lines.items to - start gates.now.lines.items from) }
-{
-    let lines = gates.lines();
-    let mut ticks = 0;
-    for i in from..to {
-        if !passes(&lines[i], class, test) {
-            return ticks;
-        }
-        ticks += lines[i].length.0;
-    }
-    ticks
-}
-
-// How many ticks pass in a row from a line's beginning on, a cycle at the most: to the last line's end and, if all of that passes,
-// from the first line's beginning.
-pub(crate) fn lasting(gates: &GateList, class: u8, test: Test, from: LineStart) -> u64
-    requires { Stands gates.now.lines.items from }
-    ensures { result ≡ lasts (passing (opened gates.now.lines.items) test class) from.tick gates.now.cycle.0 }
-{
-    let first = walk(gates, class, test, from.line, gates.lines().len());
-    if first < gates.cycle().0 - from.tick {
-        first
-    } else {
-        first + walk(gates, class, test, 0, from.line)
-    }
-}
-
-// How many ticks in a row the class is open from a line's beginning on, `limit` at the most.
-pub(crate) fn open_for(gates: &GateList, class: u8, from: LineStart, limit: u64) -> u64
-    requires { Stands gates.now.lines.items from }
-    ensures { result ≡ lasts (opened gates.now.lines.items class) from.tick limit }
-{
-    let ticks = lasting(gates, class, Test::Open, from);
-    if ticks == gates.cycle().0 || limit < ticks {
-        limit
-    } else {
-        ticks
-    }
+    let number = u8::from(class);
+    let outranked = (0..8u8).any(|higher| higher > number && line.is_open(higher));
+    !outranked && line.is_open(number)
 }

@@ -1,10 +1,6 @@
-use Rattle.std.proofs.Common.{length, ap, ◌∙◌, arith}
-use Rattle.slots.proofs.Gathers.{counted}
+use Rattle.std.proofs.Common.{◌∙◌}
 use Rattle.slots.proofs.OfPlans.{plan_small}
 use Rattle.slots.proofs.calls.slots.Goals as goal
 
-pub write-requires : goal.write-requires
-write-requires c =
-    let f = c.in_ok-found.found in
-    let s = plan_small c.args.plan.now c.args.class c.as_slice.result.now (c.as_slice.ensures ∙ c.in_ok-found.ensures.1) in
-    record { room = omega (arith, ap length c.as_slice.ensures, counted f, f.few, c.if-list-lt-MIN_LIST.false); small = s }
+pub write-requires-clause-small : goal.write-requires-clause-small
+write-requires-clause-small c = plan_small c.args.plan.now c.in_ok-class.class.number c.as_slice.result.now (c.as_slice.ensures ∙ c.find-found.ensures)

@@ -1,10 +1,15 @@
-use Rattle.std.proofs.Common.{◌∙◌}
+use Rattle.std.proofs.Common.{ap, ◌∙◌}
+use Rattle.plan.specs.PlanContents.{contents}
+use Rattle.slots.specs.OfPlan.{sure_ticks_of}
 use Rattle.slots.proofs.OfPlans.{plan_lengths, plan_sure}
 use Rattle.slots.proofs.calls.sure.Goals as goal
 
 pub total_length-requires : goal.total_length-requires
-total_length-requires c = plan_lengths c.args.plan.now c.args.class c.as_slice.result.now (c.as_slice.ensures ∙ c.in_ok-found.ensures.1)
+total_length-requires c = plan_lengths c.args.plan.now c.in_ok-class.class.number c.as_slice.result.now (c.as_slice.ensures ∙ c.find-found.ensures)
 
 pub returns : goal.returns
-returns c =
-    (c.in_ok-found.ensures.0, c.total_length.ensures ∙ plan_sure c.args.plan.now c.args.class c.as_slice.result.now (c.as_slice.ensures ∙ c.in_ok-found.ensures.1))
+returns c = (
+  c.in_ok-class.ensures.0,
+  c.total_length.ensures ∙ plan_sure c.args.plan.now c.in_ok-class.class.number c.as_slice.result.now (c.as_slice.ensures ∙ c.find-found.ensures)
+      ∙ ap (sure_ticks_of (contents c.args.plan.now)) c.in_ok-class.ensures.1,
+)

@@ -1,23 +1,18 @@
-use Rattle.std.proofs.Common.{◌≡◌, ◌<◌, false, sym, ◌∙◌, arith, below_more}
+use Rattle.std.proofs.Common.{◌≡◌, ◌<◌, true, false, not, ◌&&◌, rules, sym, ap, ◌∙◌, arith}
+use Rattle.std.proofs.lemmas.Iterator.{cases_from_any, YieldsList-from_range}
 use Rattle.gates.specs.Opened.{shows}
-use Rattle.slots.specs.Walks.{alone}
-use Rattle.slots.proofs.Walks.{clear_higher, clear_if}
+use Rattle.slots.proofs.Walks.{clear_told}
 use Rattle.slots.proofs.walk.is_clear.Goals as goal
-use Rattle.slots.proofs.walk.is_clear.Goals.{else-higher-class-via-then-higher-class+else-is_open, else-higher-class-via-else-higher-class}
+use borrow.Author.Tests.{tests}
 
-pub loop-higher-init : goal.loop-higher-init
-loop-higher-init c = λ h lt above. absurd (omega arith)
+pub returns-then-not-outranked : goal.returns-then-not-outranked
+returns-then-not-outranked c =
+    let r = cases_from_any _ _ _ (λ h. (c.args.class.number < h) × (shows c.args.line.now h ≡ true)) (λ h. c.args.class.number < h → shows c.args.line.now h ≡ false) c.any-outranked.ensures.ran (YieldsList-from_range 0 8 8 (cc) (omega arith)) (λ x q k. search (rules, tests)) (λ x q k. search (rules, tests)) in
+    let e = clear_told c.args.line.now c.args.class.number c.any-outranked.result r in
+    c.is_open.ensures ∙ ap (shows c.args.line.now) c.from-number.ensures ∙ ap (λ b. not b && shows c.args.line.now c.args.class.number) (sym c.if-not-outranked.true) ∙ sym e
 
-pub returns-then-is_open : goal.returns-then-is_open
-returns-then-is_open c = sym (clear_higher (alone c.args.line.now) c.args.class 0 c.loop-higher.higher c.if-higher-class.true c.loop-higher-test.true (sym c.if-is_open.ensures))
-
-pub loop-higher-preserved : goal.loop-higher-preserved
-loop-higher-preserved c =
-    below_more (λ h. c.args.class < h → shows c.args.line.now h ≡ false) c.loop-higher.higher c.loop-higher.invariant
-    (λ above. elim c.else-higher-class.branch [
-      | else-higher-class-via-then-higher-class+else-is_open w ↦ sym w.if-is_open.ensures
-      | else-higher-class-via-else-higher-class w ↦ absurd (omega (arith, w.if-higher-class.false))
-    ])
-
-pub returns : goal.returns
-returns c = c.is_open-2.ensures ∙ sym (clear_if (alone c.args.line.now) c.args.class 0 (λ h lt above. c.loop-higher.invariant h (omega arith) above))
+pub returns-else-not-outranked : goal.returns-else-not-outranked
+returns-else-not-outranked c =
+    let r = cases_from_any _ _ _ (λ h. (c.args.class.number < h) × (shows c.args.line.now h ≡ true)) (λ h. c.args.class.number < h → shows c.args.line.now h ≡ false) c.any-outranked.ensures.ran (YieldsList-from_range 0 8 8 (cc) (omega arith)) (λ x q k. search (rules, tests)) (λ x q k. search (rules, tests)) in
+    let e = clear_told c.args.line.now c.args.class.number c.any-outranked.result r in
+    ap not c.if-not-outranked.false ∙ ap (λ b. not b && shows c.args.line.now c.args.class.number) (sym c.if-not-outranked.false) ∙ sym e
