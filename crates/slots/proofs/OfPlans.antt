@@ -24,31 +24,31 @@ use Rattle.sure_ticks.proofs.Order.{slots_apart}
 use Rattle.sure_ticks.proofs.Sums.{lengths_most, sure_lengths}
 use Rattle.slots.specs.OfPlan.{longest, slots_of, sure_ticks_of, block_of}
 use Rattle.slots.specs.Turns.{Small}
-use Rattle.slots.proofs.Walks.{law_of, cycle_some, opened_later}
+use Rattle.slots.proofs.Walks.{cycle_some, opened_later}
 
 module _ (p : Plan) (k : ℕ) (ss : List Slot) (e : ss ≡ slots_of (contents p) k) where
   -- they are apart
   pub plan_apart : Apart p.gates.cycle.0 ss
   plan_apart =
       subst (Apart p.gates.cycle.0) (sym e)
-      (slots_apart p.gates.cycle.0 (cycle_some _ _ (law_of p.gates)) (opened (vec_items p.gates.lines)) (opened_later _ _ (law_of p.gates)) (longest (contents p)) k)
+      (slots_apart p.gates.cycle.0 (cycle_some _ _ p.gates.lawful) (opened (vec_items p.gates.lines)) (opened_later _ _ p.gates.lawful) (longest (contents p)) k)
 
   -- their numbers have 32 bits
   pub plan_small : AllByRecursion Small ss
-  plan_small = All-weaker (Fit p.gates.cycle.0) Small (λ s f. (omega (arith, f.0, p.gates.most), omega (arith, f.2, p.gates.most))) ss (apart_fit p.gates.cycle.0 ss plan_apart)
+  plan_small = All-weaker (Fit p.gates.cycle.0) Small (λ s f. (omega (arith, f.0, p.gates.lawful.most), omega (arith, f.2, p.gates.lawful.most))) ss (apart_fit p.gates.cycle.0 ss plan_apart)
 
   -- their lengths fit into a cycle
   pub plan_lengths : lengths ss ≤ most_cycle
-  plan_lengths = let m = lengths_most p.gates.cycle.0 ss plan_apart in omega (arith, p.gates.most)
+  plan_lengths = let m = lengths_most p.gates.cycle.0 ss plan_apart in omega (arith, p.gates.lawful.most)
 
   -- and are the sure ticks
   pub plan_sure : lengths ss ≡ sure_ticks_of (contents p) k
-  plan_sure = ap lengths e ∙ sym (sure_lengths p.gates.cycle.0 (cycle_some _ _ (law_of p.gates)) (opened (vec_items p.gates.lines)) (opened_later _ _ (law_of p.gates)) (longest (contents p)) k)
+  plan_sure = ap lengths e ∙ sym (sure_lengths p.gates.cycle.0 (cycle_some _ _ p.gates.lawful) (opened (vec_items p.gates.lines)) (opened_later _ _ p.gates.lawful) (longest (contents p)) k)
 
 -- no class has a larger frame than there is
 largest_most : (ts : List TrafficClass) (k : ℕ) → largest_of (map sizes_of ts) k ≤ most_frame
 largest_most [] k = omega arith
-largest_most (t ∷ ts) zero = t.most
+largest_most (t ∷ ts) zero = t.sized.most
 largest_most (t ∷ ts) (suc k) = largest_most ts k
 
 -- so no block is long

@@ -10,7 +10,6 @@ use Rattle.sure_ticks.specs.Slots.{slot, found}
 use Rattle.sure_ticks.proofs.Found.{slots_none, slots_always, slots_found}
 use Rattle.slots.specs.OfPlan.{longest}
 use Rattle.slots.specs.Listed.{items}
-use Rattle.slots.proofs.Walks.{law_of}
 use Rattle.slots.proofs.LineRuns.{found_few}
 use Rattle.slots.proofs.Gathers.{counted}
 use Rattle.slots.proofs.find.find.Goals as goal
@@ -23,7 +22,7 @@ returns-then-hold-eq0 c =
 
 pub invariant_of-first : goal.invariant_of-first
 unfolding total
-invariant_of-first c = record { there = c.args.plan.now.gates.some; begun = omega arith }
+invariant_of-first c = record { there = c.args.plan.now.gates.lawful.some; begun = omega arith }
 
 pub returns-then-clear_for-cycle : goal.returns-then-clear_for-cycle
 returns-then-clear_for-cycle c =
@@ -36,14 +35,14 @@ returns-then-clear_for-cycle c =
 
 pub gather-requires : goal.gather-requires
 gather-requires c =
-    let few = found_few _ _ (law_of c.args.plan.now.gates) (longest (contents c.args.plan.now)) c.args.class.number in
+    let few = found_few _ _ c.args.plan.now.gates.lawful (longest (contents c.args.plan.now)) c.args.class.number in
     omega (arith, few, counted c.empty-slots.result, ap length c.empty-slots.ensures)
 
 pub gather-requires-2 : goal.gather-requires-2
 gather-requires-2 c =
     let g : GateList = c.args.plan.now.gates in
     let M : ℕ → ℕ = longest (contents c.args.plan.now) in
-    let few = found_few _ _ (law_of g) M c.args.class.number in
+    let few = found_few _ _ g.lawful M c.args.class.number in
     let n = ap length c.gather.ensures ∙ length-append (items c.empty-slots.result) (found true g.cycle.0 (opened (vec_items g.lines)) M c.args.class.number g.cycle.0) in
     omega (arith, few, n, counted c.gather.new.slots, ap length c.empty-slots.ensures)
 

@@ -5,7 +5,7 @@ use Rattle.calculus.specs.Searches.{lasts}
 use Rattle.gates.specs.declared.gate_line.GateLine.{GateLine}
 use Rattle.gates.specs.Opened.{total, opened, start, line}
 use Rattle.gates.proofs.Lines.{start_next, start_more}
-use Rattle.slots.proofs.Walks.{law_of, round, round_turn, round_end, round_fits, round_stop, round_all}
+use Rattle.slots.proofs.Walks.{round, round_turn, round_end, round_fits, round_stop, round_all}
 use Rattle.slots.proofs.walk.LineStart.lasting.Goals as goal
 
 pub loop-line-init : goal.loop-line-init
@@ -19,7 +19,7 @@ returns-then-not-passes g c = λ test at answers.
     let t = round_turn (vec_items s.plan.now.gates.lines) s.index _ (cc) (cc) (cc) (cc) c.loop-line.yielded _ _ c.loop-line.yielded_by _ c.in-Some.line c.in-Some.is c.next.ensures.steps in
     let fails : FnReturnsAt g.F.Fn c.args.passes (line (round ls s.index) (length c.loop-line.yielded)) false = record { shown = c.in-Some.line; shows = t.1; says = record { met = c.if-not-passes.ensures } } in
     c.loop-line.invariant.added
-    ∙ round_stop _ _ (law_of s.plan.now.gates) s.index test at _ t.0 (λ j lt. sym (answers _ true (c.loop-line.invariant.passed j lt))) (sym (answers _ false fails))
+    ∙ round_stop _ _ s.plan.now.gates.lawful s.index test at _ t.0 (λ j lt. sym (answers _ true (c.loop-line.invariant.passed j lt))) (sym (answers _ false fails))
     ∙ ap (λ a. lasts (test (opened ls)) a s.plan.now.gates.cycle.0) (sym s.begun)
 
 pub overflow_add-ticks : goal.overflow_add-ticks
@@ -28,8 +28,8 @@ overflow_add-ticks g c =
     let t = round_turn (vec_items s.plan.now.gates.lines) s.index _ (cc) (cc) (cc) (cc) c.loop-line.yielded _ _ c.loop-line.yielded_by _ c.in-Some.line c.in-Some.is c.next.ensures.steps in
     let m = ap (λ (l : GateLine). l.length.0) t.1 in
     let n = start_next (round (vec_items s.plan.now.gates.lines) s.index) _ t.0 in
-    let f = round_fits _ _ (law_of s.plan.now.gates) s.index _ t.0 in
-    omega (arith, c.loop-line.invariant.added, s.plan.now.gates.most)
+    let f = round_fits _ _ s.plan.now.gates.lawful s.index _ t.0 in
+    omega (arith, c.loop-line.invariant.added, s.plan.now.gates.lawful.most)
 
 pub loop-line-preserved : goal.loop-line-preserved
 loop-line-preserved g c =
@@ -53,5 +53,5 @@ returns g c = λ test at answers.
     let ls : List GateLine = vec_items s.plan.now.gates.lines in
     let le = round_end ls s.index _ (cc) (cc) (cc) (cc) c.loop-line.yielded _ _ c.loop-line.yielded_by _ c.in-None.is c.next.ensures.steps in
     c.loop-line.invariant.added
-    ∙ round_all _ _ (law_of s.plan.now.gates) s.index test at _ le (λ j lt. sym (answers _ true (c.loop-line.invariant.passed j lt)))
+    ∙ round_all _ _ s.plan.now.gates.lawful s.index test at _ le (λ j lt. sym (answers _ true (c.loop-line.invariant.passed j lt)))
     ∙ ap (λ a. lasts (test (opened ls)) a s.plan.now.gates.cycle.0) (sym s.begun)
