@@ -1,6 +1,6 @@
 -- The delay and the held bytes are what they are said to mean. Assumes nothing.
-use Rattle.std.proofs.Common.{◌≡◌, ℕ, suc, ◌+◌, ◌-◌, ◌<◌, ◌≤◌, leb, ap, ⊎_elim, arith}
-use Rattle.std.proofs.lemmas.Bool.{cases_lt, leb-true, leb-false, le-leb}
+use Rattle.std.proofs.Common.{◌≡◌, ℕ, suc, ◌+◌, ◌-◌, ◌<◌, ◌≤◌, leb, ap, arith}
+use Rattle.std.proofs.lemmas.Bool.{leb-true, leb-false, le-leb}
 use Rattle.units.specs.Limits.{most_span}
 use Rattle.calculus.specs.Searches.{first, greatest}
 use Rattle.calculus.proofs.Bounded.{greatest_at, greatest_one}
@@ -12,14 +12,9 @@ use Rattle.bound.proofs.Curves.{Curves, rises_all, filled, ahead}
 -- two numbers that are the least are one
 least_unique : (P : ℕ → Type 0) (low high c d : ℕ) → IsLeast P low high c → IsLeast P low high d → c ≡ d
 least_unique P low high c d a b =
-    ⊎_elim
-    (λ (lt : c < d). absurd (b.before c a.from lt a.holds))
-    (λ (ge : d ≤ c).
-    ⊎_elim
-    (λ (lt : d < c). absurd (a.before d b.from lt b.holds))
-    (λ (le : c ≤ d). let e : c ≡ d = omega arith in e)
-    (cases_lt d c))
-    (cases_lt c d)
+    let p = λ (lt : c < d). b.before c a.from lt a.holds in
+    let q = λ (lt : d < c). a.before d b.from lt b.holds in
+    grind arith
 
 -- the first number at which g has as much as f, as a relation
 first_least : (f g : ℕ → ℕ) (from n high : ℕ) → from + n ≡ suc high → first (λ x. leb (f x) (g x)) from n ≤ high → IsLeast (λ x. f x ≤ g x) from high (first (λ x. leb (f x) (g x)) from n)

@@ -1,6 +1,6 @@
 -- The sweep over the spans in which more may arrive than before. Assumes nothing.
-use Rattle.std.proofs.Common.{◌≡◌, ℕ, suc, ◌-◌, ◌<◌, ◌≤◌, max, leb, sym, ap, ◌∙◌, ⊎_elim, arith}
-use Rattle.std.proofs.lemmas.Bool.{cases_lt, le-leb, lt-leb}
+use Rattle.std.proofs.Common.{◌≡◌, ℕ, suc, ◌-◌, ◌<◌, ◌≤◌, max, leb, sym, ap, ◌∙◌, arith}
+use Rattle.std.proofs.lemmas.Bool.{le-leb, lt-leb}
 use Rattle.units.specs.Limits.{most_span, most_load}
 use Rattle.calculus.specs.Searches.{greatest}
 use Rattle.calculus.proofs.Bounded.{greatest_none, greatest_last, greatest_flat}
@@ -61,11 +61,7 @@ module _ {alpha beta : ℕ → ℕ} (both : Curves alpha beta) {d wait kept : �
   -- where more may arrive in d than is ever supplied, there is no closing span
   pub swept_outgrown : NoSpan beta (alpha d) → most_span < closing alpha beta
   swept_outgrown all =
-      never alpha beta (λ k lo hi.
-      ⊎_elim
-      (λ (lt : k < d). s.unserved k lo lt)
-      (λ (ge : d ≤ k). let a = all k hi in let b = both.up d k ge in omega arith)
-      (cases_lt k d))
+      never alpha beta (λ k lo hi. let u = s.unserved k lo in let a = all k hi in let b = both.up d k in grind arith)
 
   -- nor is there where more may arrive than is told
   pub swept_more : ((k : ℕ) → beta k ≤ k) → most_load < alpha d → most_span < closing alpha beta
@@ -83,11 +79,7 @@ module _ {alpha beta : ℕ → ℕ} (both : Curves alpha beta) {d wait kept : �
 
     -- before it less is supplied
     behind : (k : ℕ) → k < x → beta k < alpha d
-    behind k lt =
-        ⊎_elim
-        (λ (less : beta k < alpha d). less)
-        (λ (ge : alpha d ≤ beta k). let q = least.2 k ge in absurd (omega arith))
-        (cases_lt (beta k) (alpha d))
+    behind k lt = let q = least.2 k in grind arith
 
     -- it is that of each span in which as much may arrive as in d
     span_same : (k : ℕ) → alpha k ≡ alpha d → span_for alpha beta k ≡ x
@@ -128,11 +120,7 @@ module _ {alpha beta : ℕ → ℕ} (both : Curves alpha beta) {d wait kept : �
 
       -- no span up to m closes before x
       open_still : (k : ℕ) → 1 ≤ k → k < max d x → k ≤ m → beta k < alpha k
-      open_still k lo lt le =
-          ⊎_elim
-          (λ (before : k < d). s.unserved k lo before)
-          (λ (ge : d ≤ k). let same = level k ge le in let b = behind k (omega arith) in omega arith)
-          (cases_lt k d)
+      open_still k lo lt le = let u = s.unserved k lo in let same = level k in let b = behind k in grind arith
 
       -- where m is as long as both d and x, it closes
       pub swept_closes : m ≡ max d x → Closed alpha beta (max wait (x - (d - 1))) (max kept (alpha d - beta (d - 1)))

@@ -7,7 +7,8 @@ use envelope::Envelope;
 use supply::Supply;
 use units::{Bytes, Ticks};
 
-// The bytes that may arrive in the span. None where they are more than 2^40.
+// The bytes that may arrive in the span. None where they are more than 2^40. That a span is short enough to be asked about is a clause
+// here and below: a type for such spans would have to be made anew at each step, which is no plainer.
 fn arriving<E: Envelope>(envelope: &E, span: Ticks) -> Option<Bytes>
     requires { span.0 ≤ most_span }
     ensures { MatchOption result (most_load < E.alpha envelope.now span.0) (λ b. (b.0 ≡ E.alpha envelope.now span.0) × (b.0 ≤ most_load)) }
@@ -56,7 +57,7 @@ fn next_rise<E: Envelope>(envelope: &E, from: Ticks, to: Ticks, bytes: Bytes) ->
 // Delay and held bytes of whatever arrives inside the envelope and is sent by the supply. None where there is no closing span. By a
 // rule of the project the two are a tuple.
 pub fn bound_over<S: Supply, E: Envelope>(supply: &S, envelope: &E) -> Option<(Ticks, Bytes)>
-    ensures { MatchOption result (most_span < closing (E.alpha envelope.now) (S.supplied supply.now)) (λ b. (closing (E.alpha envelope.now) (S.supplied supply.now) ≤ most_span) × (b.0.0 ≡ delay (E.alpha envelope.now) (S.supplied supply.now)) × (b.1.0 ≡ held (E.alpha envelope.now) (S.supplied supply.now))) }
+    ensures { let alpha = E.alpha envelope.now in let beta = S.supplied supply.now in MatchOption result (most_span < closing alpha beta) (λ b. (closing alpha beta ≤ most_span) × (b.0.0 ≡ delay alpha beta) × (b.1.0 ≡ held alpha beta)) }
 {
     let mut span = Ticks(1);
     let mut delay = Ticks(0);

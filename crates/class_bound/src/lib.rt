@@ -21,7 +21,7 @@ pub fn bound_under<E: Envelope>(
     class: u8,
     envelope: &E,
 ) -> Result<(Ticks, Bytes), Refusal>
-    ensures { MatchResult result (λ b. IsBound (contents plan.now) class (E.alpha envelope.now) b.0.0 b.1.0) (λ e. Unbounded (contents plan.now) class (E.alpha envelope.now) e) }
+    ensures { let s = contents plan.now in let alpha = E.alpha envelope.now in MatchResult result (λ b. IsBound s class alpha b.0.0 b.1.0) (λ e. Unbounded s class alpha e) }
 {
     if sure(plan, class)?.0 == 0 {
         return Err(Refusal::NoSureTick);
@@ -33,7 +33,7 @@ pub fn bound_under<E: Envelope>(
 // Delay and held bytes of a class by the plan's own flows. Refused where there is no such class, then where it has no flow line,
 // then as under an envelope.
 pub fn bound(plan: &Plan, class: u8) -> Result<(Ticks, Bytes), Refusal>
-    ensures { MatchResult result (λ b. (0 < length (class_flows (contents plan.now) class)) × IsBound (contents plan.now) class (class_alpha (contents plan.now) class) b.0.0 b.1.0) (λ e. NoBound (contents plan.now) class e) }
+    ensures { let s = contents plan.now in MatchResult result (λ b. (0 < length (class_flows s class)) × IsBound s class (class_alpha s class) b.0.0 b.1.0) (λ e. NoBound s class e) }
 {
     if flow_count(plan, class)? == 0 {
         return Err(Refusal::NoFlow);

@@ -4,7 +4,7 @@
 #[cfg(test)]
 mod tests {
     use arrivals::class_envelope;
-    use envelope::{AllOf, Bucket, Envelope, Load, Periodic, Sum, total};
+    use envelope::{AllOf, Bucket, Envelope, Periodic, Sum, total};
     use flat_envelope::Flat;
     use plan::Plan;
     use plan_tests::WORKED;
@@ -20,7 +20,7 @@ mod tests {
         due: &[(u64, u64)],
     ) -> Result<(), Fail> {
         for case in due {
-            assert_eq!(rt; envelope.at(Ticks(case.0))?, Load::Is(Bytes(case.1)));
+            assert_eq!(rt; envelope.at(Ticks(case.0))?, Some(Bytes(case.1)));
         }
         Ok(())
     }
@@ -101,12 +101,12 @@ mod tests {
             first: most,
             second: one,
         };
-        assert_eq!(rt; both.at(Ticks(1))?, Load::More);
+        assert_eq!(rt; both.at(Ticks(1))?, None);
         let more = Sum {
             first: both,
             second: one,
         };
-        assert_eq!(rt; more.at(Ticks(1))?, Load::More);
+        assert_eq!(rt; more.at(Ticks(1))?, None);
         Ok(())
     }
 
@@ -131,9 +131,9 @@ mod tests {
     #[test]
     fn total_of_a_slice(rt: HostRuntime) -> Result<(), Fail> {
         let flows = [bucket(300, 1, 10)?, bucket(64, 1, 1)?];
-        assert_eq!(rt; total(&flows, Ticks(10))?, Load::Is(Bytes(375)));
+        assert_eq!(rt; total(&flows, Ticks(10))?, Some(Bytes(375)));
         let none: [Bucket; 0] = [];
-        assert_eq!(rt; total(&none, Ticks(FLOW_REACH))?, Load::Is(Bytes(0)));
+        assert_eq!(rt; total(&none, Ticks(FLOW_REACH))?, Some(Bytes(0)));
         check_beyond(&rt, &AllOf(&none), FLOW_REACH + 1)?;
         let all = Sum {
             first: AllOf(&flows),
@@ -145,8 +145,8 @@ mod tests {
     #[test]
     fn many_large_flows_are_more(rt: HostRuntime) -> Result<(), Fail> {
         let flows = [periodic(1522, 1, 4_000_000)?; 64];
-        assert_eq!(rt; total(&flows, Ticks(FLOW_REACH))?, Load::More);
-        assert_eq!(rt; total(&flows, Ticks(1))?, Load::Is(Bytes(389_632_097_408)));
+        assert_eq!(rt; total(&flows, Ticks(FLOW_REACH))?, None);
+        assert_eq!(rt; total(&flows, Ticks(1))?, Some(Bytes(389_632_097_408)));
         Ok(())
     }
 
