@@ -1,8 +1,8 @@
 -- The flows of a class, kind by kind. Assumes nothing.
-use Rattle.std.proofs.Common.{◌≡◌, ℕ, ◌+◌, Bool, true, false, cond, ◌&&◌, eqb, List, [], ◌∷◌, length, sum_by, filter, sym, refl, ap, ◌∙◌, inl, inr, arith}
+use Rattle.std.proofs.Common.{◌≡◌, ℕ, ◌+◌, Bool, true, false, cond, ◌&&◌, eqb, List, [], ◌∷◌, length, sum_by, filter, sym, refl, ap, ◌∙◌, arith}
 use Rattle.std.proofs.lemmas.List.{length-map}
+use Rattle.std.proofs.lemmas.List.Folds.{fold-map}
 use Rattle.std.proofs.lemmas.List.Sums.{sum_by-cons}
-use Rattle.std.proofs.lemmas.Bool.{cases_Bool, cond-true, cond-false}
 use Rattle.envelope.specs.declared.bucket.Bucket.{Bucket}
 use Rattle.envelope.specs.declared.periodic.Periodic.{Periodic}
 use Rattle.envelope.specs.Kinds.{bucket_bytes, periodic_bytes}
@@ -28,31 +28,17 @@ module _ (d : ℕ) where
 
   -- buckets as flows
   bucket_sum : (c : ℕ) (bs : List Bucket) → sum_by bytes (bucket_entries c bs) ≡ sum_at (λ b d. bucket_bytes b.burst.0 b.num.0 b.den.0 d) bs d
-  bucket_sum c [] = refl
-  bucket_sum c (b ∷ bs) =
-      let e = sum_by-cons bytes (bucket_entry c b) (bucket_entries c bs) in
-      let f = sum_by-cons (λ (b : Bucket). bucket_bytes b.burst.0 b.num.0 b.den.0 d) b bs in
-      let r = bucket_sum c bs in
-      omega arith
+  bucket_sum c bs = fold-map (λ a f. a + bytes f) (bucket_entry c) 0 bs
 
   -- periodic flows as flows
   periodic_sum : (c : ℕ) (ps : List Periodic) → sum_by bytes (periodic_entries c ps) ≡ sum_at (λ p d. periodic_bytes p.bytes.0 p.period.0 p.jitter.0 d) ps d
-  periodic_sum c [] = refl
-  periodic_sum c (p ∷ ps) =
-      let e = sum_by-cons bytes (periodic_entry c p) (periodic_entries c ps) in
-      let f = sum_by-cons (λ (p : Periodic). periodic_bytes p.bytes.0 p.period.0 p.jitter.0 d) p ps in
-      let r = periodic_sum c ps in
-      omega arith
+  periodic_sum c ps = fold-map (λ a f. a + bytes f) (periodic_entry c) 0 ps
 
 -- any figure of flows
 module _ (g : FlowEntry → ℕ) where
   -- one flow more among those that are kept
   kept_sum : (p : FlowEntry → Bool) (f : FlowEntry) (fs : List FlowEntry) → sum_by g (filter p (f ∷ fs)) ≡ cond (p f) (g f) 0 + sum_by g (filter p fs)
-  kept_sum p f fs =
-      elim (cases_Bool (p f)) [
-        | inl h ↦ let e = cond-true (p f) (f ∷ filter p fs) (filter p fs) h in let k = cond-true (p f) (g f) 0 h in let r = sum_by-cons g f (filter p fs) in ap (sum_by g) e ∙ omega arith
-        | inr h ↦ let e = cond-false (p f) (f ∷ filter p fs) (filter p fs) h in let k = cond-false (p f) (g f) 0 h in ap (sum_by g) e ∙ omega arith
-      ]
+  kept_sum p f fs = let r = sum_by-cons g f (filter p fs) in elim (p f) as (λ b. sum_by g (cond b (f ∷ filter p fs) (filter p fs)) ≡ cond b (g f) 0 + sum_by g (filter p fs)) [ true ↦ r | false ↦ omega arith ]
 
   -- each flow of a class is of one kind or the other
   kinds_sum : (c : ℕ) (fs : List FlowEntry) → sum_by g (filter (λ f. eqb f.class c) fs) ≡ sum_by g (flows_of c bucket_kind fs) + sum_by g (flows_of c periodic_kind fs)

@@ -1,8 +1,8 @@
 // What may arrive for a traffic class: the envelope of all its flows.
 #![tactic(auto)]
 
-ghost use Rattle.std.specs.Prelude.{◌≡◌, ℕ, ◌<◌, ◌≤◌, length, MatchResult};
-ghost use Rattle.units.specs.declared.refusal.Refusal.TheVariants.{NoClass};
+ghost use Rattle.std.specs.Prelude.{◌≡◌, ℕ, length};
+ghost use Rattle.units.specs.Classes.{ByClass};
 ghost use Rattle.plan.specs.PlanContents.{contents};
 ghost use Rattle.arrivals.specs.ClassAlpha.{class_flows, class_alpha, kinds_alpha};
 
@@ -15,7 +15,7 @@ pub type ClassEnvelope<'a> = Sum<AllOf<'a, Bucket>, AllOf<'a, Periodic>>;
 
 // The envelope of a class: all its flows together. Refused where there is no such class.
 pub fn class_envelope<'a>(plan: &'a Plan, class: u8) -> Result<ClassEnvelope<'a>, Refusal>
-    ensures { MatchResult result (λ e. (class ≤ 7) × ((d : ℕ) → kinds_alpha e.first.0.now e.second.0.now d ≡ class_alpha (contents plan.now) class d)) (λ e. (7 < class) × (e ≡ NoClass)) }
+    ensures { ByClass class result (λ e. (d : ℕ) → kinds_alpha e.first.0.now e.second.0.now d ≡ class_alpha (contents plan.now) class d) }
 {
     let buckets = plan.buckets(class)?;
     let periodics = plan.periodics(class)?;
@@ -27,7 +27,7 @@ pub fn class_envelope<'a>(plan: &'a Plan, class: u8) -> Result<ClassEnvelope<'a>
 
 // How many flow lines a class has. Refused where there is no such class.
 pub fn flow_count(plan: &Plan, class: u8) -> Result<usize, Refusal>
-    ensures { MatchResult result (λ n. (class ≤ 7) × (n ≡ length (class_flows (contents plan.now) class))) (λ e. (7 < class) × (e ≡ NoClass)) }
+    ensures { ByClass class result (λ n. n ≡ length (class_flows (contents plan.now) class)) }
 {
     let bucket_flows = plan.buckets(class)?;
     let periodic_flows = plan.periodics(class)?;

@@ -10,5 +10,4 @@ pub use search::bound_over;
 // The definitions of delay and held bytes are the greatest wait and the most unsent bytes up to the least span that closes.
 pub fn bounds_mean_what_they_say()
     ensures { BoundsMean }
-{
-}
+{}

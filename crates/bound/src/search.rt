@@ -3,90 +3,75 @@ ghost use Rattle.std.specs.Prelude.{◌≡◌, ◌-◌, ◌<◌, ◌≤◌, Deci
 ghost use Rattle.units.specs.Limits.{most_span, most_load};
 ghost use Rattle.bound.specs.Bounds.{closing, delay, held};
 
-use envelope::{Envelope, Load};
+use envelope::Envelope;
 use supply::Supply;
 use units::{Bytes, Ticks};
 
 // The bytes that may arrive in the span. None where they are more than 2^40.
-fn arriving<E: Envelope>(envelope: &E, span: u64) -> Option<u64>
-    requires { span ≤ most_span }
-    ensures { MatchOption result (most_load < E.alpha envelope.now span) (λ b. (b ≡ E.alpha envelope.now span) × (b ≤ most_load)) }
+fn arriving<E: Envelope>(envelope: &E, span: Ticks) -> Option<Bytes>
+    requires { span.0 ≤ most_span }
+    ensures { MatchOption result (most_load < E.alpha envelope.now span.0) (λ b. (b.0 ≡ E.alpha envelope.now span.0) × (b.0 ≤ most_load)) }
 {
-    match envelope.at(Ticks(span)) {
-        Ok(Load::Is(bytes)) => Some(bytes.0),
-        _ => None,
-    }
+    envelope.at(span).ok().flatten()
 }
 
 // Whether more than so many bytes may arrive in the span.
-fn exceeds<E: Envelope>(envelope: &E, span: u64, bytes: u64) -> bool
-    requires short { span ≤ most_span }
-    requires told { bytes ≤ most_load }
-    ensures { Decides result (bytes < E.alpha envelope.now span) }
+fn exceeds<E: Envelope>(envelope: &E, span: Ticks, bytes: Bytes) -> bool
+    requires short { span.0 ≤ most_span }
+    requires told { bytes.0 ≤ most_load }
+    ensures { Decides result (bytes.0 < E.alpha envelope.now span.0) }
 {
-    match arriving(envelope, span) {
-        Some(most) => bytes < most,
-        None => true,
-    }
+    arriving(envelope, span).is_none_or(|most| bytes < most)
 }
 
 // The least span after `from` in which more than so many bytes may arrive: by steps that double, and then by halving.
-fn next_rise<E: Envelope>(envelope: &E, from: u64, to: u64, bytes: u64) -> u64
-    requires short { to ≤ most_span }
-    requires told { bytes ≤ most_load }
-    requires flat { E.alpha envelope.now from ≤ bytes }
-    requires risen { bytes < E.alpha envelope.now to }
-    requires onward { from < to }
-    ensures after { from < result }
-    ensures within { result ≤ to }
-    ensures flat { E.alpha envelope.now (result - 1) ≤ bytes }
-    ensures risen { bytes < E.alpha envelope.now result }
+fn next_rise<E: Envelope>(envelope: &E, from: Ticks, to: Ticks, bytes: Bytes) -> Ticks
+    requires short { to.0 ≤ most_span }
+    requires told { bytes.0 ≤ most_load }
+    requires flat { E.alpha envelope.now from.0 ≤ bytes.0 }
+    requires risen { bytes.0 < E.alpha envelope.now to.0 }
+    requires onward { from.0 < to.0 }
+    ensures after { from.0 < result.0 }
+    ensures within { result.0 ≤ to.0 }
+    ensures flat { E.alpha envelope.now (result.0 - 1) ≤ bytes.0 }
+    ensures risen { bytes.0 < E.alpha envelope.now result.0 }
 {
-    let mut low = from;
-    let mut high = to;
-    let mut step = 1u64;
-    'doubling: while step < high - low {
-        let mid = low + step;
-        if exceeds(envelope, mid, bytes) {
+    let mut low = from.0;
+    let mut high = to.0;
+    // How far beyond `low` the next look goes, where half of the spans that are left is not nearer.
+    let mut step = 1;
+    // No `for`: each look says which spans are left, and no slice holds them that `partition_point` could search.
+    while 1 < high - low {
+        let mid = low + step.min((high - low) / 2);
+        if exceeds(envelope, Ticks(mid), bytes) {
             high = mid;
         } else {
-            low = mid;
-            step = step * 2;
-        }
-    }
-    'halving: while 1 < high - low {
-        let mid = low + (high - low) / 2;
-        if exceeds(envelope, mid, bytes) {
-            high = mid;
-        } else {
+            step = (mid - low) * 2;
             low = mid;
         }
     }
-    high
+    Ticks(high)
 }
 
-// Delay and held bytes of whatever arrives inside the envelope and is sent by the supply. None where there is no closing span.
+// Delay and held bytes of whatever arrives inside the envelope and is sent by the supply. None where there is no closing span. By a
+// rule of the project the two are a tuple.
 pub fn bound_over<S: Supply, E: Envelope>(supply: &S, envelope: &E) -> Option<(Ticks, Bytes)>
     ensures { MatchOption result (most_span < closing (E.alpha envelope.now) (S.supplied supply.now)) (λ b. (closing (E.alpha envelope.now) (S.supplied supply.now) ≤ most_span) × (b.0.0 ≡ delay (E.alpha envelope.now) (S.supplied supply.now)) × (b.1.0 ≡ held (E.alpha envelope.now) (S.supplied supply.now))) }
 {
-    let mut span = 1u64;
-    let mut delay = 0u64;
-    let mut held = 0u64;
+    let mut span = Ticks(1);
+    let mut delay = Ticks(0);
+    let mut held = Bytes(0);
+    // No `for`: which span comes next depends on the bytes that may arrive in this one.
     loop {
-        let Some(bytes) = arriving(envelope, span) else {
-            return None;
-        };
-        let Some(Ticks(served)) = supply.least_span(Bytes(bytes)) else {
-            return None;
-        };
-        let Ok(Bytes(sent)) = supply.at(Ticks(span - 1)) else {
-            return None;
-        };
-        delay = delay.max(served - (span - 1));
-        held = held.max(bytes - sent);
+        let bytes = arriving(envelope, span)?;
+        let served = supply.least_span(bytes)?;
+        let before = Ticks(span.0 - 1);
+        let sent = supply.at(before).ok()?;
+        delay = delay.max(Ticks(served.0 - before.0));
+        held = held.max(Bytes(bytes.0 - sent.0));
         let last = served.max(span);
         if !exceeds(envelope, last, bytes) {
-            return Some((Ticks(delay), Bytes(held)));
+            return Some((delay, held));
         }
         span = next_rise(envelope, span, last, bytes);
     }

@@ -15,7 +15,7 @@ use slots::sure;
 use units::{Bytes, Refusal, Ticks};
 
 // Delay and held bytes of a class whose frames are inside the envelope. Refused where there is no such class, then where it has no
-// sure tick, then where no span closes.
+// sure tick, then where no span closes. By a rule of the project the two are a tuple.
 pub fn bound_under<E: Envelope>(
     plan: &Plan,
     class: u8,
@@ -27,10 +27,7 @@ pub fn bound_under<E: Envelope>(
         return Err(Refusal::NoSureTick);
     }
     let service = ClassService::of(plan, class)?;
-    match bound_over(&service, envelope) {
-        Some(bound) => Ok(bound),
-        None => Err(Refusal::NoClosingSpan),
-    }
+    bound_over(&service, envelope).ok_or(Refusal::NoClosingSpan)
 }
 
 // Delay and held bytes of a class by the plan's own flows. Refused where there is no such class, then where it has no flow line,

@@ -3,11 +3,11 @@ ghost use Rattle.std.specs.Prelude.{◌≡◌, ◌≤◌, MatchResult};
 ghost use Rattle.units.specs.Limits.{flow_reach, least_burst, most_burst, most_rate_ticks};
 ghost use Rattle.units.specs.declared.refusal.Refusal.TheVariants.{FlowRange};
 ghost use Rattle.envelope.specs.Kinds.{bucket_bytes};
-ghost use Rattle.envelope.specs.Laws.{bucket_laws};
+ghost use Rattle.envelope.specs.Kept.{bucket_laws};
 ghost use Rattle.envelope.specs.Ranges.{BucketRange};
 
 use crate::envelope_trait::Envelope;
-use crate::load::Load;
+use crate::ranges::{in_range, within_reach};
 use units::limits::{FLOW_REACH, MAX_BURST, MAX_RATE_TICKS, MIN_BURST};
 use units::{Bytes, Refusal, Ticks};
 
@@ -30,12 +30,9 @@ impl Bucket {
     pub fn new(burst: Bytes, num: Bytes, den: Ticks) -> Result<Bucket, Refusal>
         ensures { MatchResult result (λ b. (b.burst ≡ burst) × (b.num ≡ num) × (b.den ≡ den)) (λ e. (e ≡ FlowRange) × (BucketRange burst.0 num.0 den.0 → ⊥)) }
     {
-        if burst.0 < MIN_BURST || burst.0 > MAX_BURST {
-            return Err(Refusal::FlowRange);
-        }
-        if den.0 < 1 || den.0 > MAX_RATE_TICKS || num.0 > den.0 {
-            return Err(Refusal::FlowRange);
-        }
+        in_range(burst.0, MIN_BURST, MAX_BURST)?;
+        in_range(den.0, 1, MAX_RATE_TICKS)?;
+        in_range(num.0, 0, den.0)?;
         Ok(Bucket { burst, num, den })
     }
 }
@@ -48,15 +45,13 @@ impl Envelope for Bucket {
     ghost laws = { bucket_laws (λ b. b.burst.0) (λ b. b.num.0) (λ b. b.den.0) (λ b. b.den_least) };
 
     // The burst and the rate, rounded down.
-    fn at(&self, span: Ticks) -> Result<Load, Refusal> {
-        if span.0 > FLOW_REACH {
-            return Err(Refusal::BeyondReach);
-        }
+    fn at(&self, span: Ticks) -> Result<Option<Bytes>, Refusal> {
+        within_reach(span)?;
         if span.0 == 0 {
-            return Ok(Load::Is(Bytes(0)));
+            return Ok(Some(Bytes(0)));
         }
         let earned = self.num.0 * span.0 / self.den.0;
-        Ok(Load::Is(Bytes(self.burst.0 + earned)))
+        Ok(Some(Bytes(self.burst.0 + earned)))
     }
 
     fn longest(&self) -> Ticks {

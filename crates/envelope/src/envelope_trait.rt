@@ -3,8 +3,7 @@ ghost use Rattle.std.specs.Prelude.{◌≡◌, ℕ};
 ghost use Rattle.envelope.specs.Laws.{EnvelopeLaws};
 ghost use Rattle.envelope.specs.Answers.{answer};
 
-use crate::load::Load;
-use units::{Refusal, Ticks};
+use units::{Bytes, Refusal, Ticks};
 
 pub trait Envelope {
     // The most bytes that may be offered in any so many ticks in a row.
@@ -15,8 +14,8 @@ pub trait Envelope {
 
     ghost laws: { EnvelopeLaws alpha reach };
 
-    // The most bytes in a span, or that they are more than 2^40. Refused beyond the reach.
-    fn at(&self, span: Ticks) -> Result<Load, Refusal>
+    // The most bytes in a span, and none where they are more than 2^40. Refused beyond the reach.
+    fn at(&self, span: Ticks) -> Result<Option<Bytes>, Refusal>
         ensures { result ≡ answer (reach self.now) (alpha self.now) span.0 };
 
     // The reach.

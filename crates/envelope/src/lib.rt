@@ -5,12 +5,13 @@ mod bucket;
 mod envelope_trait;
 mod load;
 mod periodic;
+mod ranges;
 mod sum;
 mod totals;
 
 pub use bucket::Bucket;
 pub use envelope_trait::Envelope;
-pub use load::Load;
+pub use load::together;
 pub use periodic::Periodic;
 pub use sum::Sum;
 pub use totals::{AllOf, least_reach, total};

@@ -1,31 +1,14 @@
-// A number of bytes that may be too many to tell.
+// A load is a number of bytes up to 2^40, and none where there are more: those are not told apart.
 ghost use Rattle.std.specs.Prelude.{◌≡◌};
 ghost use Rattle.envelope.specs.Answers.{together};
 
 use units::Bytes;
 use units::limits::MAX_LOAD;
 
-// So many bytes, or more than 2^40.
-#[derive(Clone, Copy, PartialEq, Debug)]
-pub enum Load {
-    Is(Bytes),
-    More,
-}
-
-impl Load {
-    // The two together.
-    pub fn plus(self, other: Load) -> Load
-        ensures { result ≡ together self other }
-    {
-        match (self, other) {
-            (Load::Is(a), Load::Is(b)) => {
-                if a.0 <= MAX_LOAD && b.0 <= MAX_LOAD - a.0 {
-                    Load::Is(a + b)
-                } else {
-                    Load::More
-                }
-            }
-            _ => Load::More,
-        }
-    }
+// The two loads together. None where either is none, or where they are more than 2^40 bytes.
+pub fn together(first: Option<Bytes>, second: Option<Bytes>) -> Option<Bytes>
+    ensures { result ≡ together first second }
+{
+    let sum = first?.0.checked_add(second?.0)?;
+    (sum <= MAX_LOAD).then_some(Bytes(sum))
 }

@@ -1,10 +1,10 @@
 // Two envelopes together.
 ghost use Rattle.std.specs.Prelude.{◌+◌, min};
-ghost use Rattle.envelope.specs.Laws.{sum_laws};
+ghost use Rattle.envelope.specs.Kept.{sum_laws};
 
 use crate::envelope_trait::Envelope;
-use crate::load::Load;
-use units::{Refusal, Ticks};
+use crate::load::together;
+use units::{Bytes, Refusal, Ticks};
 
 #[derive(Clone, Copy)]
 pub struct Sum<P: Envelope, Q: Envelope> {
@@ -19,10 +19,10 @@ impl<P: Envelope, Q: Envelope> Envelope for Sum<P, Q> {
 
     ghost laws = { sum_laws P.laws Q.laws (λ s. s.first) (λ s. s.second) };
 
-    fn at(&self, span: Ticks) -> Result<Load, Refusal> {
+    fn at(&self, span: Ticks) -> Result<Option<Bytes>, Refusal> {
         let first = self.first.at(span)?;
         let second = self.second.at(span)?;
-        Ok(first.plus(second))
+        Ok(together(first, second))
     }
 
     fn longest(&self) -> Ticks {

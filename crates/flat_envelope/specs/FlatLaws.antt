@@ -1,7 +1,8 @@
--- An envelope that allows the same bytes in every span. Assumes nothing.
-use Rattle.std.specs.Prelude.{◌≡◌, ℕ, ◌≤◌, cond, ◌==◌, refl}
-use Rattle.std.proofs.Common.{inl, inr, arith}
-use Rattle.std.proofs.lemmas.Bool.{cases_eq, eq-eqb, ne_eqb, cond-true, cond-false}
+-- An envelope that allows the same bytes in every span. The proof of its laws stands here, for the ghost member `laws` of an impl
+-- may cite nothing that stands in the proofs/ of its own crate. Assumes nothing.
+use Rattle.std.specs.Prelude.{ℕ, ◌≤◌, cond, ◌==◌, refl}
+use Rattle.std.proofs.Common.{arith}
+use Rattle.std.proofs.lemmas.Bool.Decides.{nat_tests}
 use Rattle.units.specs.Limits.{most_span}
 use Rattle.envelope.specs.Laws.{EnvelopeLaws}
 
@@ -11,13 +12,7 @@ flat_bytes n d = cond (d == 0) 0 n
 
 -- it never falls
 flat_rises : (n i j : ℕ) → i ≤ j → flat_bytes n i ≤ flat_bytes n j
-flat_rises n i j h =
-    elim (cases_eq i 0) [
-      | inl z ↦ rw (cond-true (i == 0) 0 n (eq-eqb i 0 z)) (omega arith)
-      | inr s ↦
-          let t : j ≡ 0 → ⊥ = λ e. s (omega arith) in
-          rw (cond-false (i == 0) 0 n (ne_eqb i 0 s), cond-false (j == 0) 0 n (ne_eqb j 0 t)) (omega arith)
-    ]
+flat_rises n i j h = grind (arith, nat_tests)
 
 -- so it is an envelope, whatever holds its bytes
 pub flat_laws : {X : Type 0} (bytes : X → ℕ) → EnvelopeLaws (λ (s : X) d. flat_bytes (bytes s) d) (λ _. most_span)

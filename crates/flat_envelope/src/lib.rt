@@ -4,7 +4,7 @@
 ghost use Rattle.units.specs.Limits.{most_span};
 ghost use Rattle.flat_envelope.specs.FlatLaws.{flat_bytes, flat_laws};
 
-use envelope::{Envelope, Load};
+use envelope::Envelope;
 use units::limits::{MAX_LOAD, MAX_SPAN};
 use units::{Bytes, Refusal, Ticks};
 
@@ -20,17 +20,17 @@ impl Envelope for Flat {
 
     ghost laws = { flat_laws (λ f. f.bytes.0) };
 
-    fn at(&self, span: Ticks) -> Result<Load, Refusal> {
+    fn at(&self, span: Ticks) -> Result<Option<Bytes>, Refusal> {
         if span.0 > MAX_SPAN {
             return Err(Refusal::BeyondReach);
         }
         if span.0 == 0 {
-            return Ok(Load::Is(Bytes(0)));
+            return Ok(Some(Bytes(0)));
         }
         if self.bytes.0 > MAX_LOAD {
-            return Ok(Load::More);
+            return Ok(None);
         }
-        Ok(Load::Is(self.bytes))
+        Ok(Some(self.bytes))
     }
 
     fn longest(&self) -> Ticks {

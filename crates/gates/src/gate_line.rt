@@ -22,9 +22,6 @@ impl GateLine {
     pub fn is_open(&self, class: u8) -> bool
         ensures { result ≡ shows self.now class }
     {
-        match self.gates.get(class as usize) {
-            Some(Gate::Open) => true,
-            _ => false,
-        }
+        matches!(self.gates.get(usize::from(class)), Some(Gate::Open))
     }
 }

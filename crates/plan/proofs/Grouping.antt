@@ -1,7 +1,8 @@
 -- The flows of a plan by class: how the lists are filled, and what each of them holds.
-use Rattle.std.proofs.Common.{◌≡◌, ℕ, zero, suc, ◌+◌, ◌-◌, ◌<◌, ◌≤◌, true, false, ◌&&◌, eqb, List, [], ◌∷◌, ◌++◌, map, length, get_or, take, vec_items, filter, sym, refl, ap, ◌∙◌, ⊎_elim, arith}
+use Rattle.std.proofs.Common.{◌≡◌, ℕ, zero, suc, ◌+◌, ◌-◌, ◌<◌, ◌≤◌, true, false, ◌&&◌, eqb, List, [], ◌∷◌, ◌++◌, map, reverse, length, get_or, take, drop, vec_items, filter, sym, refl, ap, ◌∙◌, ⊎_elim, arith}
 use Rattle.std.proofs.lemmas.List.Elements.{filter-append}
-use Rattle.std.proofs.lemmas.List.{append_assoc, append-nil, map-append, take_more}
+use Rattle.std.proofs.lemmas.List.{append_assoc, append-nil, map-append, reverse-append, get_or-reverse, get_or-map, length-map, length-reverse, take_more}
+use Rattle.std.proofs.Math.Seq.{drop-cons}
 use Rattle.std.proofs.lemmas.Bool.{cases_lt, eq-eqb, ne_eqb, and_left, cond-true, cond-false}
 use Rattle.envelope.specs.declared.bucket.Bucket.{Bucket}
 use Rattle.envelope.specs.declared.periodic.Periodic.{Periodic}
@@ -12,9 +13,9 @@ use Rattle.reader.specs.declared.parsed.Kind.{Kind}
 use Rattle.reader.specs.declared.parsed.Kind.TheVariants as kind
 use Rattle.reader.specs.Contents.{FlowEntry}
 use Rattle.reader.specs.Views.{flow_of, entry_of, sizes_of}
-use Rattle.plan.specs.declared.class_flows.ClassFlows.{ClassFlows}
+use Rattle.plan.specs.declared.class_plan.ClassPlan.{ClassPlan}
 use Rattle.plan.specs.Arranged.{of_kind, flows_of, groups, silent}
-use Rattle.plan.specs.ByClass.{bucket_entry, periodic_entry, bucket_entries, periodic_entries, entries_in, entries_down}
+use Rattle.plan.specs.ByClass.{bucket_entry, periodic_entry, bucket_entries, periodic_entries, entries_in, entries_down, sizes_up}
 
 -- one line more of a loop over the flow lines
 module _ (c : ℕ) (k : Kind) (ls : List FlowLine) (i : ℕ) (l : FlowLine) (h : i < length ls) (at : l ≡ get_or ls i l) where
@@ -85,30 +86,45 @@ module _ (c : ℕ) (ls : List FlowLine) (i : ℕ) (l : FlowLine) (h : i < length
   )
 
 -- one class more: it stands behind those above it
-entries_push : (c : ℕ) (fs : List ClassFlows) (f : ClassFlows) → entries_down c (fs ++ f ∷ []) ≡ entries_down c fs ++ entries_in (c - length fs) f
+entries_push : (c : ℕ) (fs : List ClassPlan) (f : ClassPlan) → entries_down c (fs ++ f ∷ []) ≡ entries_down c fs ++ entries_in (c - length fs) f
 entries_push c [] f = append-nil (entries_in c f) ∙ ap (λ d. entries_in d f) (omega arith)
 entries_push c (g ∷ fs) f =
     let d : c - 1 - length fs ≡ c - suc (length fs) = omega arith in
     ap (λ xs. entries_in c g ++ xs) (entries_push (c - 1) fs f ∙ ap (λ e. entries_down (c - 1) fs ++ entries_in e f) d)
     ∙ sym (append_assoc (entries_in c g) (entries_down (c - 1) fs) (entries_in (c - suc (length fs)) f))
 
--- a loop over the classes: one class more
-pub groups_more : (i : ℕ) (es : List FlowEntry) (fs : List ClassFlows) (f : ClassFlows) → i < 8 → length fs ≡ i →
-    bucket_entries (7 - i) (vec_items f.buckets) ≡ flows_of (7 - i) kind.Bucket es → periodic_entries (7 - i) (vec_items f.periodics) ≡ flows_of (7 - i) kind.Periodic es →
-    entries_down 7 (fs ++ f ∷ []) ++ groups (8 - (i + 1)) es ≡ entries_down 7 fs ++ groups (8 - i) es
-unfolding groups
-groups_more i es fs f h n b p =
-    let d : 7 - length fs ≡ 7 - i = omega arith in
-    let s : 8 - i ≡ suc (7 - i) = omega arith in
-    let t : 8 - (i + 1) ≡ 7 - i = omega arith in
-    ap (λ xs. xs ++ groups (8 - (i + 1)) es) (entries_push 7 fs f ∙ ap (λ e. entries_down 7 fs ++ entries_in e f) d)
-    ∙ append_assoc (entries_down 7 fs) (entries_in (7 - i) f) (groups (8 - (i + 1)) es)
-    ∙ ap (λ xs. entries_down 7 fs ++ xs) ((λ j. (b j ++ p j) ++ groups (t j) es) ∙ ap (λ m. groups m es) (sym s))
+-- the sizes of the class c
+pub sizes_at : (ts : List TrafficClass) (c : ℕ) (t : TrafficClass) → c < length ts → t ≡ get_or ts c t → sizes_of t ≡ get_or (map sizes_of ts) c silent
+sizes_at [] c t h e = absurd (omega arith)
+sizes_at (x ∷ ts) zero t h e = ap sizes_of e
+sizes_at (x ∷ ts) (suc c) t h e = sizes_at ts c t (omega arith) e
+
+-- a loop down the classes, of which n are left: one class more
+module _ (n : ℕ) (es : List FlowEntry) (ks : List ClassPlan) (k : ClassPlan) (some : 0 < n) (few : n ≤ 8) (so_far : length ks ≡ 8 - n) where
+  -- its flows stand behind those of the higher classes
+  pub groups_more : bucket_entries (n - 1) (vec_items k.buckets) ≡ flows_of (n - 1) kind.Bucket es → periodic_entries (n - 1) (vec_items k.periodics) ≡ flows_of (n - 1) kind.Periodic es →
+      entries_down 7 (ks ++ k ∷ []) ++ groups (n - 1) es ≡ entries_down 7 ks ++ groups n es
+  unfolding groups
+  groups_more b p =
+      let d : 7 - length ks ≡ n - 1 = omega arith in
+      let s : n ≡ suc (n - 1) = omega arith in
+      ap (λ xs. xs ++ groups (n - 1) es) (entries_push 7 ks k ∙ ap (λ e. entries_down 7 ks ++ entries_in e k) d)
+      ∙ append_assoc (entries_down 7 ks) (entries_in (n - 1) k) (groups (n - 1) es)
+      ∙ ap (λ xs. entries_down 7 ks ++ xs) ((λ j. (b j ++ p j) ++ groups (n - 1) es) ∙ ap (λ m. groups m es) (sym s))
+
+  -- and its sizes before theirs
+  pub sizes_more : (ts : List TrafficClass) → length ts ≡ 8 → k.sizes ≡ get_or ts (n - 1) k.sizes → sizes_up ks ≡ drop n ts → sizes_up (ks ++ k ∷ []) ≡ drop (n - 1) ts
+  sizes_more ts eight is h =
+      let s : n ≡ suc (n - 1) = omega arith in
+      ap reverse (map-append (λ (j : ClassPlan). j.sizes) ks (k ∷ []))
+      ∙ reverse-append (map (λ (j : ClassPlan). j.sizes) ks) (k.sizes ∷ [])
+      ∙ (λ i. is i ∷ (h ∙ ap (λ i. drop i ts) s) i)
+      ∙ sym (drop-cons ts (n - 1) k.sizes (omega arith))
 
 -- no class left
-pub groups_end : (i : ℕ) (es xs : List FlowEntry) → 8 ≤ i → xs ++ groups (8 - i) es ≡ groups 8 es → xs ≡ groups 8 es
+pub groups_end : (n : ℕ) (es xs : List FlowEntry) → n ≡ 0 → xs ++ groups n es ≡ groups 8 es → xs ≡ groups 8 es
 unfolding groups
-groups_end i es xs h e = let z : 8 - i ≡ 0 = omega arith in sym (append-nil xs) ∙ ap (λ m. xs ++ groups m es) (sym z) ∙ e
+groups_end n es xs z e = sym (append-nil xs) ∙ ap (λ m. xs ++ groups m es) (sym z) ∙ e
 
 -- a list of the class c, by kind
 module _ (c : ℕ) where
@@ -156,11 +172,11 @@ module _ (c d : ℕ) (k : Kind) (ne : d ≡ c → ⊥) where
   periodics_other (p ∷ ps) = cond-false _ _ _ (other_class c k (periodic_entry d p) ne) ∙ periodics_other ps
 
   -- all flows of another class
-  entries_other : (f : ClassFlows) → flows_of c k (entries_in d f) ≡ []
+  entries_other : (f : ClassPlan) → flows_of c k (entries_in d f) ≡ []
   entries_other f = flows_append c k (bucket_entries d (vec_items f.buckets)) (periodic_entries d (vec_items f.periodics)) ∙ (λ i. buckets_other (vec_items f.buckets) i ++ periodics_other (vec_items f.periodics) i)
 
 -- all flows of lower classes
-entries_below : (c d : ℕ) (k : Kind) (fs : List ClassFlows) → d < c → flows_of c k (entries_down d fs) ≡ []
+entries_below : (c d : ℕ) (k : Kind) (fs : List ClassPlan) → d < c → flows_of c k (entries_down d fs) ≡ []
 unfolding flows_of
 entries_below c d k [] h = refl
 entries_below c d k (f ∷ fs) h =
@@ -168,12 +184,12 @@ entries_below c d k (f ∷ fs) h =
     ∙ (λ i. entries_other c d k (λ e. omega arith) f i ++ entries_below c (d - 1) k fs (omega arith) i)
 
 -- the flows of a kind in the list of the class c are those that the list of all classes has
-abbrev pub in_class : ℕ → Kind → ClassFlows → List FlowEntry
+abbrev pub in_class : ℕ → Kind → ClassPlan → List FlowEntry
 in_class c kind.Bucket f = bucket_entries c (vec_items f.buckets)
 in_class c kind.Periodic f = periodic_entries c (vec_items f.periodics)
 
 -- the flows of a kind among those of the class
-own_entries : (c : ℕ) (k : Kind) (f : ClassFlows) → flows_of c k (entries_in c f) ≡ in_class c k f
+own_entries : (c : ℕ) (k : Kind) (f : ClassPlan) → flows_of c k (entries_in c f) ≡ in_class c k f
 own_entries c kind.Bucket f =
     flows_append c kind.Bucket (bucket_entries c (vec_items f.buckets)) (periodic_entries c (vec_items f.periodics))
     ∙ (λ i. buckets_pass c (vec_items f.buckets) i ++ periodics_fail c (vec_items f.periodics) i) ∙ append-nil _
@@ -182,13 +198,13 @@ own_entries c kind.Periodic f =
     ∙ (λ i. buckets_fail c (vec_items f.buckets) i ++ periodics_pass c (vec_items f.periodics) i)
 
 -- the lists behind that of the class c hold none of it
-rest_none : (k : Kind) (c : ℕ) (fs : List ClassFlows) → length fs ≡ c → flows_of c k (entries_down (c - 1) fs) ≡ []
+rest_none : (k : Kind) (c : ℕ) (fs : List ClassPlan) → length fs ≡ c → flows_of c k (entries_down (c - 1) fs) ≡ []
 unfolding flows_of
 rest_none k c [] n = refl
 rest_none k c (f ∷ fs) n = entries_below c (c - 1) k (f ∷ fs) (omega arith)
 
 -- the list at the place of the class c holds its flows, and all of them
-pub class_entries : (k : Kind) (c d : ℕ) (fs : List ClassFlows) (f : ClassFlows) → c ≤ d → length fs ≡ suc d → f ≡ get_or fs (d - c) f → in_class c k f ≡ flows_of c k (entries_down d fs)
+pub class_entries : (k : Kind) (c d : ℕ) (fs : List ClassPlan) (f : ClassPlan) → c ≤ d → length fs ≡ suc d → f ≡ get_or fs (d - c) f → in_class c k f ≡ flows_of c k (entries_down d fs)
 class_entries k c d [] f le n at = absurd (omega arith)
 class_entries k c d (g ∷ fs) f le n at =
     ⊎_elim
@@ -207,8 +223,12 @@ class_entries k c d (g ∷ fs) f le n at =
     ∙ ap (λ j. flows_of c k (entries_down j (g ∷ fs))) e)
     (cases_lt c d)
 
--- the sizes of the class c
-pub sizes_at : (ts : List TrafficClass) (c : ℕ) (t : TrafficClass) → c < length ts → t ≡ get_or ts c t → sizes_of t ≡ get_or (map sizes_of ts) c silent
-sizes_at [] c t h e = absurd (omega arith)
-sizes_at (x ∷ ts) zero t h e = ap sizes_of e
-sizes_at (x ∷ ts) (suc c) t h e = sizes_at ts c t (omega arith) e
+-- the place of the class c holds its sizes
+pub class_sizes : (ks : List ClassPlan) (c : ℕ) (k : ClassPlan) → length ks ≡ 8 → c ≤ 7 → k ≡ get_or ks (7 - c) k → sizes_of k.sizes ≡ get_or (map sizes_of (sizes_up ks)) c silent
+class_sizes ks c k eight low is =
+    let ts = map (λ (j : ClassPlan). j.sizes) ks in
+    let n : length ts ≡ length ks = length-map ks (λ (j : ClassPlan). j.sizes) in
+    let m : length (reverse ts) ≡ length ts = length-reverse ts in
+    let d : length ts - 1 - c ≡ 7 - c = omega arith in
+    sizes_at (reverse ts) c k.sizes (omega arith)
+    (ap (λ (j : ClassPlan). j.sizes) is ∙ sym (get_or-map (λ (j : ClassPlan). j.sizes) ks (7 - c) k k.sizes (omega arith)) ∙ ap (λ i. get_or ts i k.sizes) (sym d) ∙ sym (get_or-reverse ts c k.sizes (omega arith)))

@@ -7,7 +7,7 @@ use Rattle.gates.specs.declared.traffic_class.TrafficClass.{TrafficClass}
 use Rattle.gates.specs.Opened.{shut_line}
 use Rattle.reader.specs.Entries.{first}
 use Rattle.reader.specs.Reading.{read_plan}
-use Rattle.reader.specs.Contents.{Contents, FlowEntry}
+use Rattle.reader.specs.Contents.{Contents, FlowEntry, ClassEntry}
 use Rattle.reader.specs.Views.{sizes_of}
 use Rattle.writing.specs.Inverse.{TextOf}
 use Rattle.writing.proofs.Back.{only_texts}
@@ -40,9 +40,10 @@ pub only_memory : (text : List ℕ) (e : PlanFault) → (e ≡ Memory) ⊎ (Err 
 only_memory text e why u h = ⊎_elim (λ m. m) (λ r. let both = r ∙ every_plan text u h in let z : ◌≡◌ {A = ℕ} 0 1 = cc in absurd (omega arith)) why
 
 -- the shut plan
-pub shut_contents_lem : (cycle : ℕ) (gs : List GateLine) (t : TrafficClass) (fs : List FlowEntry) → cycle ≡ 1 → gs ≡ shut_line ∷ [] → t.largest.0 ≡ 0 → t.depth.0 ≡ 0 → fs ≡ groups 8 [] →
-    ◌≡◌ {A = Contents} (record { port = 1; cycle = cycle; gates = gs; classes = map sizes_of (replicate 8 t); flows = fs }) shut_contents
-shut_contents_lem cycle gs t fs a b l d e =
+pub shut_contents_lem : (cycle : ℕ) (gs : List GateLine) (t : TrafficClass) (es : List ClassEntry) (fs : List FlowEntry) → cycle ≡ 1 → gs ≡ shut_line ∷ [] → t.largest.0 ≡ 0 → t.depth.0 ≡ 0 → es ≡ map sizes_of (replicate 8 t) → fs ≡ groups 8 [] →
+    ◌≡◌ {A = Contents} (record { port = 1; cycle = cycle; gates = gs; classes = es; flows = fs }) shut_contents
+shut_contents_lem cycle gs t es fs a b l d c e =
     let q : sizes_of t ≡ silent = (λ i. record { largest = l i; depth = d i }) in
+    let s : es ≡ replicate 8 silent = c ∙ ap (λ x. replicate 8 x) q in
     let f = e ∙ groups_nil 8 in
-    (λ i. record { port = 1; cycle = a i; gates = b i; classes = replicate 8 (q i); flows = f i })
+    (λ i. record { port = 1; cycle = a i; gates = b i; classes = s i; flows = f i })

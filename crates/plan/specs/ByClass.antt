@@ -1,10 +1,11 @@
--- What the lists of flows by class say. Assumes nothing.
-use Rattle.std.specs.Prelude.{ℕ, ◌-◌, List, [], ◌∷◌, ◌++◌, map, vec_items}
+-- What the list of classes says. Assumes nothing.
+use Rattle.std.specs.Prelude.{ℕ, ◌-◌, List, [], ◌∷◌, ◌++◌, map, reverse, vec_items}
 use Rattle.envelope.specs.declared.bucket.Bucket.{Bucket}
 use Rattle.envelope.specs.declared.periodic.Periodic.{Periodic}
+use Rattle.gates.specs.declared.traffic_class.TrafficClass.{TrafficClass}
 use Rattle.reader.specs.Contents.{FlowEntry}
 use Rattle.reader.specs.Views.{bucket_of, periodic_of}
-use Rattle.plan.specs.declared.class_flows.ClassFlows.{ClassFlows}
+use Rattle.plan.specs.declared.class_plan.ClassPlan.{ClassPlan}
 
 -- a bucket as a flow of the class c
 abbrev pub bucket_entry : ℕ → Bucket → FlowEntry
@@ -23,10 +24,14 @@ abbrev pub periodic_entries : ℕ → List Periodic → List FlowEntry
 periodic_entries c ps = map (periodic_entry c) ps
 
 -- the flows of the class c, as they stand in a plan text
-abbrev pub entries_in : ℕ → ClassFlows → List FlowEntry
-entries_in c f = bucket_entries c (vec_items f.buckets) ++ periodic_entries c (vec_items f.periodics)
+abbrev pub entries_in : ℕ → ClassPlan → List FlowEntry
+entries_in c k = bucket_entries c (vec_items k.buckets) ++ periodic_entries c (vec_items k.periodics)
 
 -- the flows of the classes from c down
-abbrev pub entries_down : ℕ → List ClassFlows → List FlowEntry
+abbrev pub entries_down : ℕ → List ClassPlan → List FlowEntry
 entries_down c [] = []
-entries_down c (f ∷ fs) = entries_in c f ++ entries_down (c - 1) fs
+entries_down c (k ∷ ks) = entries_in c k ++ entries_down (c - 1) ks
+
+-- the sizes of the classes from class 0 up
+abbrev pub sizes_up : List ClassPlan → List TrafficClass
+sizes_up ks = reverse (map (λ k. k.sizes) ks)

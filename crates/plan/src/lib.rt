@@ -1,7 +1,7 @@
-// The plan of one output port, as the analysis uses it: gates, classes, and each class's flows by kind.
+// The plan of one output port, as the analysis uses it: gates, classes, and what is said of each class.
 #![tactic(auto)]
 
-mod class_flows;
+mod class_plan;
 mod plan;
 
 pub use plan::Plan;

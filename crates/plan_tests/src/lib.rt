@@ -68,15 +68,7 @@ mod tests {
     fn no_class_above_seven(rt: HostRuntime) -> Result<(), Fail> {
         let plan = Plan::new(rt.alloc())?;
         assert_eq!(rt; plan.class(7).is_ok(), true);
-        match plan.class(8) {
-            Ok(_) => {
-                assert!(rt; false);
-                Ok(())
-            },
-            Err(refusal) => {
-                assert_eq!(rt; refusal, Refusal::NoClass);
-                Ok(())
-            },
-        }
+        assert_eq!(rt; plan.class(8).err(), Some(Refusal::NoClass));
+        Ok(())
     }
 }

@@ -5,7 +5,7 @@
 use anyhow::Context;
 use plan::Plan;
 use std::alloc::{AllocError, Global};
-use std::io;
+use std::iter;
 
 fn main(rt: HostRuntime) -> anyhow::Result<()> {
     run(&rt)
@@ -14,67 +14,79 @@ fn main(rt: HostRuntime) -> anyhow::Result<()> {
 fn run(rt: &HostRuntime) -> anyhow::Result<()> {
     let mut plan = Plan::new(rt.alloc())?;
     let mut base = Vec::new(rt.alloc());
-    let mut in_base = true;
+    let mut lines = rt.lines(rt.alloc());
+    for line in lines.by_ref() {
+        let line = line?;
+        if line.is_empty() {
+            break;
+        }
+        base.push(line)?;
+    }
     let mut cases = 0u64;
     let mut wrong = 0u64;
-    for line in rt.lines(rt.alloc()) {
+    for line in lines {
         let line = line?;
-        if in_base {
-            if line.is_empty() {
-                in_base = false;
-            } else {
-                base.push(line)?;
-            }
-        } else {
-            cases = cases.saturating_add(1);
-            if !holds(rt, &mut plan, base.as_slice(), line.as_str())? {
-                wrong = wrong.saturating_add(1);
-            }
+        let case = Case::read(line.as_str())?;
+        cases = cases.saturating_add(1);
+        if !holds(rt, &mut plan, base.as_slice(), case)? {
+            wrong = wrong.saturating_add(1);
         }
     }
     println!(rt; "{cases} cases, {wrong} wrong")?;
     Ok(())
 }
 
-// Whether the reader answers to the case as it should; prints what it answers if not.
-fn holds(rt: &HostRuntime, plan: &mut Plan, base: &[String], case: &str) -> anyhow::Result<bool> {
-    let mut parts = case.split('\t');
-    let due = parts.next().context("a case has an answer")?;
-    let title = parts.next().context("a case has a title")?;
-    let place = parts
-        .next()
-        .context("a case has a line number")?
-        .parse::<usize>()?;
-    let lines = parts.next().context("a case has a text")?;
-    let text = text_of(rt.alloc(), base, place, lines)?;
-    let answer = answer_to(rt.alloc(), plan, text.as_slice())?;
-    Ok(compare(rt, title, answer.as_str(), due)?)
+// A line of the table: the answer that is due, what the case shows, and the bytes in the place of a line of the base text.
+#[derive(Clone, Copy)]
+struct Case<'a> {
+    due: &'a str,
+    title: &'a str,
+    place: usize,
+    written: &'a str,
 }
 
-// Whether the answer is the one that is due.
-fn compare(rt: &HostRuntime, title: &str, answer: &str, due: &str) -> io::Result<bool> {
-    if answer.as_bytes() == due.as_bytes() {
+impl<'a> Case<'a> {
+    fn read(line: &'a str) -> anyhow::Result<Case<'a>> {
+        let mut parts = line.split('\t');
+        Ok(Case {
+            due: parts.next().context("a case has an answer")?,
+            title: parts.next().context("a case has a title")?,
+            place: parts
+                .next()
+                .context("a case has a line number")?
+                .parse::<usize>()?,
+            written: parts.next().context("a case has a text")?,
+        })
+    }
+}
+
+// Whether the reader answers to the case as it should; prints what it answers if not.
+fn holds(
+    rt: &HostRuntime,
+    plan: &mut Plan,
+    base: &[String],
+    case: Case<'_>,
+) -> anyhow::Result<bool> {
+    let text = text_of(rt.alloc(), base, case)?;
+    let answer = answer_to(rt.alloc(), plan, text.as_slice())?;
+    if answer.as_str() == case.due {
         return Ok(true);
     }
+    let Case { due, title, .. } = case;
     println!(rt; "{title}: {answer} in place of {due}")?;
     Ok(false)
 }
 
 // The base text with other bytes in the place of one line; those bytes alone where the place is 0.
-fn text_of(
-    heap: Global,
-    base: &[String],
-    place: usize,
-    lines: &str,
-) -> Result<Vec<u8>, AllocError> {
+fn text_of(heap: Global, base: &[String], case: Case<'_>) -> Result<Vec<u8>, AllocError> {
     let mut text = Vec::new(heap);
-    if place == 0 {
-        add_written(&mut text, lines)?;
+    if case.place == 0 {
+        add_written(&mut text, case.written)?;
         return Ok(text);
     }
-    for (i, line) in base.iter().enumerate() {
-        if i == place - 1 {
-            add_written(&mut text, lines)?;
+    for (number, line) in (1..).zip(base) {
+        if number == case.place {
+            add_written(&mut text, case.written)?;
         } else {
             text.extend_from_slice(line.as_bytes())?;
             text.push(b'\n')?;
@@ -88,9 +100,7 @@ fn add_written(text: &mut Vec<u8>, lines: &str) -> Result<(), AllocError> {
     let mut last = 0u8;
     for byte in lines.bytes() {
         if byte == b'@' {
-            for _ in 0..1000u32 {
-                text.push(last)?;
-            }
+            text.extend(iter::repeat_n(last, 1000))?;
         } else {
             last = meant(byte);
             text.push(last)?;

@@ -1,19 +1,11 @@
 // report: reads a plan on standard input and prints its report, or why it is refused. A refusal ends the process with status 1.
 #![tactic(auto)]
 
-ghost use Rattle.std.specs.Prelude.{◌≡◌, suc, ◌-◌, ◌⊎◌, ◌++◌, take, Ok, Err, vec_len, MatchResult, OnOk};
-ghost use Rattle.units.specs.Limits.{most_text};
-ghost use Rattle.faults.specs.declared.fault.PlanFault.TheVariants.{Memory};
-ghost use Rattle.reader.specs.Reading.{read_plan};
-ghost use Rattle.plan.specs.PlanContents.{contents};
-
 use anyhow::anyhow;
 use faults::PlanFault;
 use plan::Plan;
-use std::alloc::{AllocError, Global};
+use plan_input::{read_input, read_plan};
 use std::io;
-use std::io::Read;
-use units::limits::MAX_TEXT;
 
 fn main(rt: HostRuntime) -> anyhow::Result<()> {
     run(&rt)
@@ -33,44 +25,10 @@ fn run(rt: &HostRuntime) -> anyhow::Result<()> {
     }
 }
 
-// The plan that the text says, or why there is none.
-fn read_plan(heap: Global, text: &[u8]) -> Result<Plan, PlanFault>
-    ensures { MatchResult result (λ p. Ok (contents p) ≡ read_plan text.now) (λ e. (e ≡ Memory) ⊎ (Err e ≡ read_plan text.now)) }
-{
-    let mut plan = Plan::new(heap)?;
-    plan.read(text)?;
-    Ok(plan)
-}
-
-// All of standard input, or its first bytes up to one more than a plan text may have.
-fn read_input(rt: &HostRuntime) -> io::Result<Vec<u8>> {
-    let mut text = Vec::new(rt.alloc());
-    let mut input = rt.stdin();
-    for _ in 0..u64::MAX {
-        let mut chunk = [0u8; 4096];
-        let n = input.read(&mut chunk)?;
-        if n == 0 {
-            break;
-        }
-        keep(&mut text, &chunk[0..n])?;
-    }
-    Ok(text)
-}
-
-// Adds bytes to the text, as far as it stays within one more than a plan text may have.
-fn keep(text: &mut Vec<u8>, bytes: &[u8]) -> Result<(), AllocError>
-    ensures { OnOk result (text.new.items ≡ text.old.items ++ take (suc most_text - vec_len text.old) bytes.now) }
-{
-    let room = (MAX_TEXT + 1).saturating_sub(text.len());
-    let n = room.min(bytes.len());
-    text.extend_from_slice(&bytes[0..n])
-}
-
 fn print_plan(rt: &HostRuntime, plan: &Plan) -> io::Result<()> {
     let port = plan.port();
     println!(rt; "port={port}")?;
-    for above in 0..8u8 {
-        let class = 7 - above;
+    for class in (0..8u8).rev() {
         println!(rt; "class={class}")?;
     }
     Ok(())

@@ -4,19 +4,13 @@
 #[cfg(test)]
 mod tests {
     use plan::Plan;
+    use plan_input::read_plan;
     use service::{ClassService, curve};
     use slots_tests::{ALWAYS_CLEAR, OVER_THE_END, UNDER_OTHERS, WORKED, WRAPPING};
-    use std::alloc::Global;
     use std::process::Abort;
     use std::test::Fail;
     use supply::Supply;
     use units::{Bytes, Refusal, Ticks};
-
-    fn plan_of(heap: Global, text: &[u8]) -> Result<Plan, Fail> {
-        let mut plan = Plan::new(heap)?;
-        plan.read(text)?;
-        Ok(plan)
-    }
 
     // The curve has these bytes at these spans, and the service of the class says so too.
     fn check_curve(
@@ -57,7 +51,7 @@ mod tests {
 
     #[test]
     fn worked_plan(rt: HostRuntime) -> Result<(), Fail> {
-        let plan = plan_of(rt.alloc(), WORKED)?;
+        let plan = read_plan(rt.alloc(), WORKED)?;
         check_curve(
             &rt,
             &plan,
@@ -84,7 +78,7 @@ mod tests {
 
     #[test]
     fn least_spans_of_the_worked_plan(rt: HostRuntime) -> Result<(), Fail> {
-        let plan = plan_of(rt.alloc(), WORKED)?;
+        let plan = read_plan(rt.alloc(), WORKED)?;
         check_spans(
             &rt,
             &plan,
@@ -103,7 +97,7 @@ mod tests {
 
     #[test]
     fn class_without_a_slot(rt: HostRuntime) -> Result<(), Fail> {
-        let plan = plan_of(rt.alloc(), WORKED)?;
+        let plan = read_plan(rt.alloc(), WORKED)?;
         check_curve(&rt, &plan, 6, &[(0, 0), (2000, 0), (4_000_000, 0)])?;
         check_spans(&rt, &plan, 6, &[(0, 0)])?;
         check_no_span(&rt, &plan, 6, 1)
@@ -111,7 +105,7 @@ mod tests {
 
     #[test]
     fn class_that_is_always_clear(rt: HostRuntime) -> Result<(), Fail> {
-        let plan = plan_of(rt.alloc(), ALWAYS_CLEAR)?;
+        let plan = read_plan(rt.alloc(), ALWAYS_CLEAR)?;
         check_curve(
             &rt,
             &plan,
@@ -129,21 +123,21 @@ mod tests {
 
     #[test]
     fn slots_over_the_end_of_the_cycle(rt: HostRuntime) -> Result<(), Fail> {
-        let plan = plan_of(rt.alloc(), OVER_THE_END)?;
+        let plan = read_plan(rt.alloc(), OVER_THE_END)?;
         check_curve(
             &rt,
             &plan,
             7,
             &[(599, 0), (600, 1), (1000, 401), (1001, 401)],
         )?;
-        let late = plan_of(rt.alloc(), WRAPPING)?;
+        let late = read_plan(rt.alloc(), WRAPPING)?;
         check_curve(&rt, &late, 7, &[(389, 0), (390, 1), (450, 61), (900, 185)])?;
         check_spans(&rt, &late, 7, &[(1, 390), (61, 450), (62, 777)])
     }
 
     #[test]
     fn two_slots(rt: HostRuntime) -> Result<(), Fail> {
-        let plan = plan_of(rt.alloc(), UNDER_OTHERS)?;
+        let plan = read_plan(rt.alloc(), UNDER_OTHERS)?;
         check_curve(
             &rt,
             &plan,
@@ -166,30 +160,14 @@ mod tests {
 
     #[test]
     fn no_class_comes_before_a_long_span(rt: HostRuntime) -> Result<(), Fail> {
-        let plan = plan_of(rt.alloc(), WORKED)?;
-        check_refused(&rt, curve(&plan, 8, Ticks(4_000_001)), Refusal::NoClass)?;
-        check_refused(&rt, curve(&plan, 7, Ticks(4_000_001)), Refusal::CurveSpan)?;
-        check_refused(
-            &rt,
-            ClassService::of(&plan, 7)?.at(Ticks(4_000_001)),
-            Refusal::CurveSpan,
-        )
-    }
-
-    fn check_refused(
-        rt: &impl Abort,
-        answer: Result<Bytes, Refusal>,
-        due: Refusal,
-    ) -> Result<(), Fail> {
-        match answer {
-            Ok(_) => {
-                assert!(rt; false);
-                Ok(())
-            },
-            Err(refusal) => {
-                assert_eq!(rt; refusal, due);
-                Ok(())
-            },
-        }
+        let plan = read_plan(rt.alloc(), WORKED)?;
+        let past = Ticks(4_000_001);
+        assert_eq!(rt; curve(&plan, 8, past), Err(Refusal::NoClass));
+        assert_eq!(rt; curve(&plan, 7, past), Err(Refusal::CurveSpan));
+        assert_eq!(rt;
+            ClassService::of(&plan, 7)?.at(past),
+            Err(Refusal::CurveSpan)
+        );
+        Ok(())
     }
 }

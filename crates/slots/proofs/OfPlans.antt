@@ -14,6 +14,7 @@ use Rattle.gates.proofs.Sizes.{hold_most}
 use Rattle.reader.specs.Contents.{largest_of}
 use Rattle.reader.specs.Views.{sizes_of}
 use Rattle.plan.specs.declared.plan.Plan.{Plan}
+use Rattle.plan.specs.ByClass.{sizes_up}
 use Rattle.plan.specs.PlanContents.{contents}
 use Rattle.sure_ticks.specs.declared.slot.Slot.{Slot}
 use Rattle.sure_ticks.specs.Runs.{clear}
@@ -73,6 +74,7 @@ pub plan_block : (p : Plan) (k : ℕ) → block_of (contents p) k ≤ hold_limit
 unfolding block classBlock
 plan_block p k =
     greatest_from (classBlock p.gates.cycle.0 (opened (vec_items p.gates.lines)) (longest (contents p)) k) k hold_limit (λ j _.
-    let h = hold_most (largest_of (map sizes_of p.classes) j) (largest_most p.classes j) in
+    let ts = sizes_up (vec_items p.classes) in
+    let h = hold_most (largest_of (map sizes_of ts) j) (largest_most ts j) in
     cond_both (any (λ t. sure p.gates.cycle.0 (opened (vec_items p.gates.lines)) (longest (contents p)) k t && opened (vec_items p.gates.lines) j t) p.gates.cycle.0) (longest (contents p) j - 1) 0 (λ v. v ≤ hold_limit)
     (λ _. omega arith) (λ _. omega arith))

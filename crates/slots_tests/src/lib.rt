@@ -41,8 +41,8 @@ pub const OVER_THE_END: &[u8] =
 mod tests {
     use super::*;
     use plan::Plan;
+    use plan_input::read_plan;
     use slots::{MIN_LIST, block, slots, sure};
-    use std::alloc::Global;
     use std::process::Abort;
     use std::test::Fail;
     use units::{Refusal, Ticks};
@@ -52,22 +52,14 @@ mod tests {
         let mut list = [77u32; MIN_LIST];
         let count = slots(plan, class, &mut list)?;
         assert_eq!(rt; count, due.len() / 2);
-        for i in 0..MIN_LIST {
-            let left = due.get(i).copied().unwrap_or(77);
-            assert_eq!(rt; list.get(i).copied().unwrap_or(0), left);
-        }
+        assert_eq!(rt; list.get(..due.len()), Some(due));
+        assert!(rt; list.iter().skip(due.len()).all(|number| *number == 77));
         Ok(())
-    }
-
-    fn plan_of(heap: Global, text: &[u8]) -> Result<Plan, Fail> {
-        let mut plan = Plan::new(heap)?;
-        plan.read(text)?;
-        Ok(plan)
     }
 
     #[test]
     fn worked_plan(rt: HostRuntime) -> Result<(), Fail> {
-        let plan = plan_of(rt.alloc(), WORKED)?;
+        let plan = read_plan(rt.alloc(), WORKED)?;
         check_slots(&rt, &plan, 7, &[0, 601])?;
         check_slots(&rt, &plan, 6, &[])?;
         check_slots(&rt, &plan, 5, &[949, 252])?;
@@ -81,23 +73,23 @@ mod tests {
 
     #[test]
     fn window_as_long_as_the_largest_frame(rt: HostRuntime) -> Result<(), Fail> {
-        check_slots(&rt, &plan_of(rt.alloc(), WINDOW_OF_100)?, 7, &[0, 1])?;
-        check_slots(&rt, &plan_of(rt.alloc(), FRAME_OF_101)?, 7, &[])
+        check_slots(&rt, &read_plan(rt.alloc(), WINDOW_OF_100)?, 7, &[0, 1])?;
+        check_slots(&rt, &read_plan(rt.alloc(), FRAME_OF_101)?, 7, &[])
     }
 
     #[test]
     fn slot_of_a_run_over_the_end_begins_in_the_next_cycle(rt: HostRuntime) -> Result<(), Fail> {
-        let plan = plan_of(rt.alloc(), WRAPPING)?;
+        let plan = read_plan(rt.alloc(), WRAPPING)?;
         check_slots(&rt, &plan, 7, &[13, 124])?;
         check_slots(&rt, &plan, 0, &[200, 200])
     }
 
     #[test]
     fn class_that_is_always_clear(rt: HostRuntime) -> Result<(), Fail> {
-        let plan = plan_of(rt.alloc(), ALWAYS_CLEAR)?;
+        let plan = read_plan(rt.alloc(), ALWAYS_CLEAR)?;
         check_slots(&rt, &plan, 5, &[0, 1500])?;
         assert_eq!(rt; block(&plan, 5)?, Ticks(99));
-        let tick = plan_of(rt.alloc(), ONE_TICK)?;
+        let tick = read_plan(rt.alloc(), ONE_TICK)?;
         check_slots(&rt, &tick, 0, &[0, 1])?;
         assert_eq!(rt; sure(&tick, 0)?, Ticks(1));
         Ok(())
@@ -105,7 +97,7 @@ mod tests {
 
     #[test]
     fn class_that_never_shuts_under_others_that_open(rt: HostRuntime) -> Result<(), Fail> {
-        let plan = plan_of(rt.alloc(), UNDER_OTHERS)?;
+        let plan = read_plan(rt.alloc(), UNDER_OTHERS)?;
         check_slots(&rt, &plan, 5, &[1000, 500, 1800, 700])?;
         check_slots(&rt, &plan, 6, &[299, 638])?;
         assert_eq!(rt; sure(&plan, 5)?, Ticks(1200));
@@ -114,7 +106,7 @@ mod tests {
 
     #[test]
     fn lower_class_that_never_shuts(rt: HostRuntime) -> Result<(), Fail> {
-        let plan = plan_of(rt.alloc(), LOWER_NEVER_SHUTS)?;
+        let plan = read_plan(rt.alloc(), LOWER_NEVER_SHUTS)?;
         check_slots(&rt, &plan, 7, &[149, 652])?;
         assert_eq!(rt; block(&plan, 7)?, Ticks(149));
         Ok(())
@@ -122,7 +114,7 @@ mod tests {
 
     #[test]
     fn last_line_adjoins_the_first(rt: HostRuntime) -> Result<(), Fail> {
-        check_slots(&rt, &plan_of(rt.alloc(), OVER_THE_END)?, 7, &[700, 401])
+        check_slots(&rt, &read_plan(rt.alloc(), OVER_THE_END)?, 7, &[700, 401])
     }
 
     #[test]
@@ -135,7 +127,7 @@ mod tests {
         text.extend_from_slice(
             b"class=7,64,64\nclass=6,0,0\nclass=5,0,0\nclass=4,0,0\nclass=3,0,0\nclass=2,0,0\nclass=1,0,0\nclass=0,64,64\nflows=0\n",
         )?;
-        let plan = plan_of(rt.alloc(), text.as_slice())?;
+        let plan = read_plan(rt.alloc(), text.as_slice())?;
         let mut list = [0u32; MIN_LIST];
         assert_eq!(rt; slots(&plan, 7, &mut list)?, 32);
         assert_eq!(rt; list[62], 9300);
@@ -147,31 +139,14 @@ mod tests {
 
     #[test]
     fn no_class_comes_before_a_short_list(rt: HostRuntime) -> Result<(), Fail> {
-        let plan = plan_of(rt.alloc(), WORKED)?;
+        let plan = read_plan(rt.alloc(), WORKED)?;
         let mut list = [77u32; 63];
-        check_refused(&rt, slots(&plan, 8, &mut list), Refusal::NoClass)?;
-        check_refused(&rt, slots(&plan, 7, &mut list), Refusal::SlotSpace)?;
+        assert_eq!(rt; slots(&plan, 8, &mut list), Err(Refusal::NoClass));
+        assert_eq!(rt; slots(&plan, 7, &mut list), Err(Refusal::SlotSpace));
         assert_eq!(rt; list[0], 77);
         assert_eq!(rt; list[1], 77);
         assert_eq!(rt; sure(&plan, 8).is_ok(), false);
         assert_eq!(rt; block(&plan, 255).is_ok(), false);
         Ok(())
-    }
-
-    fn check_refused(
-        rt: &impl Abort,
-        answer: Result<usize, Refusal>,
-        due: Refusal,
-    ) -> Result<(), Fail> {
-        match answer {
-            Ok(_) => {
-                assert!(rt; false);
-                Ok(())
-            },
-            Err(refusal) => {
-                assert_eq!(rt; refusal, due);
-                Ok(())
-            },
-        }
     }
 }

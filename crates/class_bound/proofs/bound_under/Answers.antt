@@ -1,8 +1,10 @@
-use Rattle.std.proofs.Common.{refl, inr, arith}
-use Rattle.class_bound.proofs.Flows.{never_same}
+use Rattle.std.proofs.Common.{arith}
+use Rattle.plan.specs.PlanContents.{contents}
+use Rattle.class_bound.proofs.Flows.{by_search}
 use Rattle.class_bound.proofs.bound_under.Goals as goal
 
-pub returns-in-None : goal.returns-in-None
-returns-in-None g c =
+pub returns : goal.returns
+returns g c =
     let s = c.in_ok-service.ensures in
-    inr (inr (s.0, omega (arith, c.if-branch-eq0.false, c.in_ok-sure.ensures.1), never_same _ _ _ s.1 c.in-None.ensures, refl))
+    rw c.ok_or.ensures.value
+    (by_search (contents c.args.plan.now) c.args.class _ _ s.0 (omega (arith, c.if-branch-eq0.false, c.in_ok-sure.ensures.1)) s.1 c.bound_over.result c.bound_over.ensures)

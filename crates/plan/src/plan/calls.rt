@@ -1,24 +1,24 @@
 // Making a plan, reading one, and what it tells.
-ghost use Rattle.std.specs.Prelude.{◌≡◌, ◌<◌, ◌≤◌, ◌⊎◌, map, IfOk, Ok, Err, MatchResult, OnOk, slice_index_or};
-ghost use Rattle.units.specs.declared.refusal.Refusal.TheVariants.{NoClass};
+ghost use Rattle.std.specs.Prelude.{◌≡◌, ◌-◌, ◌⊎◌, IfOk, Ok, Err, MatchResult, OnOk, slice_index_or};
+ghost use Rattle.units.specs.Classes.{ByClass};
 ghost use Rattle.faults.specs.declared.fault.PlanFault.TheVariants.{Memory};
 ghost use Rattle.reader.specs.Parsed.{contents_of};
 ghost use Rattle.reader.specs.Reading.{read_plan};
 ghost use Rattle.reader.specs.Contents.{Contents};
 ghost use Rattle.reader.specs.Views.{sizes_of};
 ghost use Rattle.writing.specs.Inverse.{TextOf};
-ghost use Rattle.plan.specs.Arranged.{flows_of, bucket_kind, periodic_kind, class_of, silent, shut_contents, arranged};
+ghost use Rattle.plan.specs.Arranged.{flows_of, bucket_kind, periodic_kind, class_of, shut_contents, arranged};
 ghost use Rattle.plan.specs.ByClass.{bucket_entries, periodic_entries};
 ghost use Rattle.plan.specs.PlanContents.{contents};
 
-use crate::class_flows::arrange;
+use crate::class_plan::{ClassPlan, arrange};
 use crate::plan::Plan;
 use envelope::{Bucket, Periodic};
 use faults::PlanFault;
 use gates::{GateList, TrafficClass};
 use reader::{Parsed, parse};
 use std::alloc::{AllocError, Global};
-use units::Refusal;
+use units::{Class, Refusal};
 
 impl Plan {
     // The shut plan: port 1, a cycle of one tick with every class shut, no class that sends, and no flow. Fails only for want of memory.
@@ -26,13 +26,12 @@ impl Plan {
         ensures { IfOk result (λ p. contents p ≡ shut_contents) }
     {
         let gates = GateList::shut(heap)?;
-        let flows = arrange(heap, &[])?;
+        let classes = arrange(heap, &[TrafficClass::silent(); 8], &[])?;
         Ok(Plan {
             heap,
             port: 1,
             gates,
-            classes: [TrafficClass::silent(); 8],
-            flows,
+            classes,
         })
     }
 
@@ -48,17 +47,16 @@ impl Plan {
         Ok(())
     }
 
-    // The plan that a text says, its flows put by class and kind.
+    // The plan that a text says, put by class and kind of flow.
     fn of(heap: Global, parsed: Parsed) -> Result<Plan, AllocError>
         ensures { IfOk result (λ p. contents p ≡ arranged (contents_of parsed)) }
     {
-        let flows = arrange(heap, parsed.flows.as_slice())?;
+        let classes = arrange(heap, &parsed.classes, parsed.flows.as_slice())?;
         Ok(Plan {
             heap,
             port: parsed.port,
             gates: parsed.gates,
-            classes: parsed.classes,
-            flows,
+            classes,
         })
     }
 
@@ -78,38 +76,30 @@ impl Plan {
 
     // The sizes of a class. Refused where there is no such class.
     pub fn class(&self, class: u8) -> Result<TrafficClass, Refusal>
-        ensures { MatchResult result (λ t. (class ≤ 7) × (sizes_of t ≡ class_of (contents self.now) class)) (λ e. (7 < class) × (e ≡ NoClass)) }
+        ensures { ByClass class result (λ t. sizes_of t ≡ class_of (contents self.now) class) }
     {
-        sizes_of(&self.classes, class)
+        Ok(self.of_class(class)?.sizes)
     }
 
     // The buckets of a class, in the order of the plan text. Refused where there is no such class.
     pub fn buckets(&self, class: u8) -> Result<&[Bucket], Refusal>
-        ensures { MatchResult result (λ s. (class ≤ 7) × (bucket_entries class s.now ≡ flows_of class bucket_kind (contents self.now).flows)) (λ e. (7 < class) × (e ≡ NoClass)) }
+        ensures { ByClass class result (λ s. bucket_entries class s.now ≡ flows_of class bucket_kind (contents self.now).flows) }
     {
-        if class > 7 {
-            return Err(Refusal::NoClass);
-        }
-        Ok(self.flows[7 - class as usize].buckets.as_slice())
+        Ok(self.of_class(class)?.buckets.as_slice())
     }
 
     // The periodic flows of a class, in the order of the plan text. Refused where there is no such class.
     pub fn periodics(&self, class: u8) -> Result<&[Periodic], Refusal>
-        ensures { MatchResult result (λ s. (class ≤ 7) × (periodic_entries class s.now ≡ flows_of class periodic_kind (contents self.now).flows)) (λ e. (7 < class) × (e ≡ NoClass)) }
+        ensures { ByClass class result (λ s. periodic_entries class s.now ≡ flows_of class periodic_kind (contents self.now).flows) }
     {
-        if class > 7 {
-            return Err(Refusal::NoClass);
-        }
-        Ok(self.flows[7 - class as usize].periodics.as_slice())
+        Ok(self.of_class(class)?.periodics.as_slice())
     }
-}
 
-// The sizes of a class among those of all eight.
-fn sizes_of(classes: &[TrafficClass; 8], class: u8) -> Result<TrafficClass, Refusal>
-    ensures { MatchResult result (λ t. (class ≤ 7) × (sizes_of t ≡ slice_index_or (map sizes_of classes.now) class silent)) (λ e. (7 < class) × (e ≡ NoClass)) }
-{
-    if class > 7 {
-        return Err(Refusal::NoClass);
+    // What the plan says of a class. Refused where there is no such class.
+    fn of_class(&self, class: u8) -> Result<&ClassPlan, Refusal>
+        ensures { ByClass class result (λ k. k.now ≡ slice_index_or self.now.classes.items (7 - class) k.now) }
+    {
+        let class = Class::try_from(class)?;
+        Ok(&self.classes[7 - usize::from(class)])
     }
-    Ok(classes[class as usize])
 }

@@ -6,8 +6,8 @@ use Rattle.plan.proofs.plan.Plan.periodics.Goals as goal
 
 pub returns : goal.returns
 returns c =
-    let p = c.args.self.now in (
-      c.if-class-gt7.false,
-      ap (periodic_entries c.args.class) c.as_slice.ensures.value
-          ∙ class_entries Periodic c.args.class 7 (vec_items p.flows) c.index.result.now c.if-class-gt7.false (sym p.flows.ok.0 ∙ p.every) c.index.ensures,
+    let p = c.args.self.now in
+    let k = c.in_ok-of_class.ensures in (
+      k.0,
+      ap (periodic_entries c.args.class) c.as_slice.ensures.value ∙ class_entries Periodic c.args.class 7 (vec_items p.classes) _ k.0 (sym p.classes.ok.0 ∙ p.every) k.1,
     )
