@@ -1,17 +1,18 @@
 -- The slots of a plan are apart, few and small. Assumes nothing.
-use Rattle.std.proofs.Common.{◌≡◌, ℕ, zero, suc, ◌-◌, ◌≤◌, ◌&&◌, Bool, true, false, cond, nat_lt, List, [], ◌∷◌, ◌++◌, length, map, vec_items, sym, ap, ◌∙◌, subst, arith}
+use Rattle.std.proofs.Common.{◌≡◌, ℕ, zero, suc, ◌-◌, ◌<◌, ◌≤◌, ◌&&◌, Bool, true, false, cond, nat_lt, List, [], ◌∷◌, ◌++◌, length, map, vec_items, sym, ap, ◌∙◌, subst, arith}
 use Rattle.std.specs.List.{AllByRecursion}
 use Rattle.std.proofs.ByRecursion.{All-weaker}
 use Rattle.std.proofs.lemmas.Bool.{cond_both}
-use Rattle.std.proofs.lemmas.List.{length-append}
+use Rattle.std.proofs.lemmas.List.{length-append, length-map, length-reverse}
+use Rattle.std.proofs.Math.ListN.{get_or-eq_default}
 use Rattle.units.specs.Limits.{most_cycle, most_frame, most_slots}
 use Rattle.calculus.specs.Searches.{any, holds}
 use Rattle.calculus.proofs.Bounded.{greatest_from}
 use Rattle.gates.specs.declared.traffic_class.TrafficClass.{TrafficClass}
 use Rattle.gates.specs.Opened.{opened}
-use Rattle.gates.specs.Sizes.{hold_limit}
+use Rattle.gates.specs.Sizes.{hold, hold_limit}
 use Rattle.gates.proofs.Sizes.{hold_most}
-use Rattle.reader.specs.Contents.{largest_of}
+use Rattle.reader.specs.Contents.{ClassEntry, largest_of}
 use Rattle.reader.specs.Views.{sizes_of}
 use Rattle.plan.specs.declared.plan.Plan.{Plan}
 use Rattle.plan.specs.ByClass.{sizes_up}
@@ -62,6 +63,13 @@ module _ (p : Plan) (k : ℕ) (ss : List Slot) (e : ss ≡ slots_of (contents p)
   -- and are the sure ticks
   pub plan_sure : lengths ss ≡ sure_ticks_of (contents p) k
   plan_sure = ap lengths e ∙ sym (sure_lengths p.gates.cycle.0 (cycle_some _ _ (law_of p.gates)) (opened (vec_items p.gates.lines)) (opened_later _ _ (law_of p.gates)) (longest (contents p)) k)
+
+-- no class above 7 sends
+pub longest_none : (p : Plan) (k : ℕ) → 7 < k → longest (contents p) k ≡ 0
+unfolding hold
+longest_none p k h =
+    let n : length (map sizes_of (sizes_up (vec_items p.classes))) ≤ k = simp (length-map, length-reverse) (omega (arith, p.every)) in
+    ap (λ (e : ClassEntry). e.largest) (get_or-eq_default (map sizes_of (sizes_up (vec_items p.classes))) (record { largest = 0; depth = 0 }) n)
 
 -- no class has a larger frame than there is
 largest_most : (ts : List TrafficClass) (k : ℕ) → largest_of (map sizes_of ts) k ≤ most_frame

@@ -24,15 +24,15 @@ impl SlotList {
     pub fn of(plan: &Plan, class: u8) -> Result<SlotList, Refusal>
         ensures { ByClass class result (λ s. items s ≡ slots_of (contents plan.now) class) }
     {
-        let class = Class::try_from(class)?;
+        let class = u8::from(Class::try_from(class)?);
         Ok(find(plan, class))
     }
 }
 
 // The slots of a class. One that begins past the cycle's end begins in the next cycle before all others, and so comes first. A struct
 // of the plan and the class would say no more than the two do, which every public call is asked with.
-pub(crate) fn find(plan: &Plan, class: Class) -> SlotList
-    ensures { items result ≡ slots_of (contents plan.now) class.number }
+pub(crate) fn find(plan: &Plan, class: u8) -> SlotList
+    ensures { items result ≡ slots_of (contents plan.now) class }
 {
     let mut slots = ArrayVec::new();
     if hold(plan, class) == 0 {
@@ -56,10 +56,10 @@ pub(crate) fn find(plan: &Plan, class: Class) -> SlotList
 }
 
 // Adds the slots of all runs that begin where they are asked for.
-fn gather(plan: &Plan, class: Class, asked: Beginning, slots: &mut ArrayVec<Slot, MAX_SLOTS>)
-    requires { array_vec_len slots.old + length (found (late asked) plan.now.gates.cycle.0 (opened plan.now.gates.lines.items) (longest (contents plan.now)) class.number plan.now.gates.cycle.0) ≤ most_slots }
+fn gather(plan: &Plan, class: u8, asked: Beginning, slots: &mut ArrayVec<Slot, MAX_SLOTS>)
+    requires { array_vec_len slots.old + length (found (late asked) plan.now.gates.cycle.0 (opened plan.now.gates.lines.items) (longest (contents plan.now)) class plan.now.gates.cycle.0) ≤ most_slots }
     ensures { slots.new.items ≡ slots.old.items
-        ++ found (late asked) plan.now.gates.cycle.0 (opened plan.now.gates.lines.items) (longest (contents plan.now)) class.number plan.now.gates.cycle.0 }
+        ++ found (late asked) plan.now.gates.cycle.0 (opened plan.now.gates.lines.items) (longest (contents plan.now)) class plan.now.gates.cycle.0 }
 {
     let mut tick = 0;
     for (index, line) in plan.gates().lines().iter().enumerate() {
