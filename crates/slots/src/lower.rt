@@ -10,13 +10,12 @@ pub(crate) trait Waits {
         ensures { result ≡ waits self.now class };
 }
 
-// The greatest over the classes below `class`, taken from the highest of them down.
+// The greatest over the classes below `class`, and 0 for class 0.
 pub(crate) fn greatest_below<W: Waits>(frames: &W, class: u8) -> u64
     ensures { result ≡ greatest (W.waits frames.now) class }
 {
-    let mut most = 0u64;
-    for lower in (0..class).rev() {
-        most = most.max(frames.ticks(lower));
-    }
-    most
+    (0..class)
+        .map(|lower| frames.ticks(lower))
+        .max()
+        .unwrap_or(0)
 }
