@@ -17,11 +17,7 @@ pub struct Bucket {
     burst: Bytes,
     num: Bytes,
     den: Ticks,
-    ghost burst_least: { least_burst ≤ burst.0 },
-    ghost burst_most: { burst.0 ≤ most_burst },
-    ghost den_least: { 1 ≤ den.0 },
-    ghost den_most: { den.0 ≤ most_rate_ticks },
-    ghost num_most: { num.0 ≤ den.0 },
+    ghost range: { BucketRange burst.0 num.0 den.0 },
 }
 
 impl Bucket {
@@ -42,7 +38,7 @@ impl Envelope for Bucket {
 
     ghost reach = { λ _. flow_reach };
 
-    ghost laws = { bucket_laws (λ b. b.burst.0) (λ b. b.num.0) (λ b. b.den.0) (λ b. b.den_least) };
+    ghost laws = { bucket_laws (λ b. b.burst.0) (λ b. b.num.0) (λ b. b.den.0) (λ b. b.range.den_low) };
 
     // The burst and the rate, rounded down.
     fn at(&self, span: Ticks) -> Result<Option<Bytes>, Refusal> {

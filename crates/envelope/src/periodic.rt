@@ -16,11 +16,7 @@ pub struct Periodic {
     bytes: Bytes,
     period: Ticks,
     jitter: Ticks,
-    ghost bytes_least: { least_frame ≤ bytes.0 },
-    ghost bytes_most: { bytes.0 ≤ most_frame },
-    ghost period_least: { 1 ≤ period.0 },
-    ghost period_most: { period.0 ≤ most_period },
-    ghost jitter_most: { jitter.0 ≤ most_jitter },
+    ghost range: { PeriodicRange bytes.0 period.0 jitter.0 },
 }
 
 impl Periodic {
@@ -45,7 +41,7 @@ impl Envelope for Periodic {
 
     ghost reach = { λ _. flow_reach };
 
-    ghost laws = { periodic_laws (λ p. p.bytes.0) (λ p. p.period.0) (λ p. p.jitter.0) (λ p. p.period_least) };
+    ghost laws = { periodic_laws (λ p. p.bytes.0) (λ p. p.period.0) (λ p. p.jitter.0) (λ p. p.range.period_low) };
 
     // A frame for each period that the span and the jitter reach into. A bucket begins in the same way: one function for both
     // would take the formula as a closure with clauses of its own, which is no plainer than these lines.

@@ -1,7 +1,6 @@
 // The gate list of a port: its lines follow one another and repeat with the cycle.
-ghost use Rattle.std.specs.Prelude.{◌≡◌, ℕ, ◌+◌, ◌*◌, ◌%◌, ◌<◌, ◌≤◌, [], ◌∷◌, length, IfOk, Decides, MatchOption};
-ghost use Rattle.units.specs.Limits.{most_lines, most_cycle};
-ghost use Rattle.gates.specs.Opened.{total, line, shows, within, opened, InLine, Lawful, shut_line};
+ghost use Rattle.std.specs.Prelude.{◌≡◌, ℕ, ◌+◌, ◌*◌, ◌%◌, [], ◌∷◌, length, IfOk, Decides, MatchOption};
+ghost use Rattle.gates.specs.Opened.{line, shows, within, opened, InLine, Lawful, shut_line};
 
 use crate::gate_line::{Gate, GateLine};
 use std::alloc::{AllocError, Global};
@@ -13,11 +12,7 @@ use units::limits::{MAX_CYCLE, MAX_GATE_LINES};
 pub struct GateList {
     cycle: Ticks,
     lines: Vec<GateLine>,
-    ghost each: { ((i : ℕ) → i < length lines.items → 1 ≤ (line lines.items i).length.0) },
-    ghost together: { total lines.items ≡ cycle.0 },
-    ghost some: { 1 ≤ length lines.items },
-    ghost few: { length lines.items ≤ most_lines },
-    ghost most: { cycle.0 ≤ most_cycle },
+    ghost lawful: { Lawful lines.items cycle.0 },
 }
 
 impl GateList {

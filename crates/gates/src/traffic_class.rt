@@ -1,6 +1,5 @@
 // What a plan says of one traffic class: its largest frame and the room for its unsent bytes.
-ghost use Rattle.std.specs.Prelude.{◌≡◌, ◌<◌, ◌≤◌, MatchOption};
-ghost use Rattle.units.specs.Limits.{least_frame, most_frame, most_depth};
+ghost use Rattle.std.specs.Prelude.{◌≡◌, MatchOption};
 ghost use Rattle.gates.specs.Sizes.{Sized, hold};
 
 use units::limits::{MAX_DEPTH, MAX_FRAME, MIN_FRAME};
@@ -11,11 +10,7 @@ use units::{Bytes, Ticks};
 pub struct TrafficClass {
     largest: Bytes,
     depth: Bytes,
-    ghost most: { largest.0 ≤ most_frame },
-    ghost least: { (1 ≤ largest.0 → least_frame ≤ largest.0) },
-    ghost room: { largest.0 ≤ depth.0 },
-    ghost deep: { depth.0 ≤ most_depth },
-    ghost silent: { (largest.0 ≡ 0 → depth.0 ≡ 0) },
+    ghost sized: { Sized largest.0 depth.0 },
 }
 
 impl TrafficClass {

@@ -149,7 +149,7 @@ sized_is k m d None most least none = ap (λ r. and_then r (λ n. Ok (sizes_with
 sized_is k m d (Some t) most least is =
     let a : t.largest.0 ≡ m = ap (λ b. b.0) is.0 in
     let b : t.depth.0 ≡ d = ap (λ b. b.0) is.1 in
-    let s : Sized m d = record { most = most; least = least; room = omega (arith, t.room); deep = omega (arith, t.deep); silent = λ z. omega (arith, t.silent (omega arith)) } in
+    let s : Sized m d = record { most = most; least = least; room = omega (arith, t.sized.room); deep = omega (arith, t.sized.deep); silent = λ z. omega (arith, t.sized.silent (omega arith)) } in
     (λ i. Ok (sizes_with (a i) (b i))) ∙ ap (λ r. and_then r (λ n. Ok (sizes_with m n))) (in_range k m (room_most m) d s.room (room_in m d s))
 
 -- the largest frame of a class that is read from the list of classes

@@ -117,7 +117,7 @@ listed_is cycle n gs None all is some few most none =
     sym (cond-false _ _ _ (ne_eqb (total gs) cycle (λ e. none (record { each = λ i h. each_long gs i all h; together = e; some = omega arith; few = omega arith; most = most }))))
 listed_is cycle n gs (Some g) all is some few most e =
     let c : g.cycle.0 ≡ cycle = ap (λ x. x.0) e.0 in
-    ap Ok e.1 ∙ sym (cond-true _ _ _ (eq-eqb (total gs) cycle (ap total (sym e.1) ∙ g.together ∙ c)))
+    ap Ok e.1 ∙ sym (cond-true _ _ _ (eq-eqb (total gs) cycle (ap total (sym e.1) ∙ g.lawful.together ∙ c)))
 
 -- and the list has the cycle of the plan
 pub listed_cycle : (cycle : ℕ) (gs : List GateLine) (o : Option GateList) (e : PlanFault) →

@@ -36,7 +36,7 @@ module _ (p : Plan) (k : ℕ) (ss : List Slot) (e : ss ≡ slots_of (contents p)
   pub plan_apart : Apart p.gates.cycle.0 ss
   plan_apart =
       subst (Apart p.gates.cycle.0) (sym e)
-      (slots_apart p.gates.cycle.0 (cycle_some _ _ (law_of p.gates)) (opened (vec_items p.gates.lines)) (opened_later _ _ (law_of p.gates)) (longest (contents p)) k)
+      (slots_apart p.gates.cycle.0 (cycle_some _ _ p.gates.lawful) (opened (vec_items p.gates.lines)) (opened_later _ _ p.gates.lawful) (longest (contents p)) k)
 
   -- there are few
   pub plan_few : length ss ≤ most_slots
@@ -54,15 +54,15 @@ module _ (p : Plan) (k : ℕ) (ss : List Slot) (e : ss ≡ slots_of (contents p)
 
   -- their numbers have 32 bits
   pub plan_small : AllByRecursion Small ss
-  plan_small = All-weaker (Fit p.gates.cycle.0) Small (λ s f. (omega (arith, f.0, p.gates.most), omega (arith, f.2, p.gates.most))) ss (apart_fit p.gates.cycle.0 ss plan_apart)
+  plan_small = All-weaker (Fit p.gates.cycle.0) Small (λ s f. (omega (arith, f.0, p.gates.lawful.most), omega (arith, f.2, p.gates.lawful.most))) ss (apart_fit p.gates.cycle.0 ss plan_apart)
 
   -- their lengths fit into a cycle
   pub plan_lengths : lengths ss ≤ most_cycle
-  plan_lengths = let m = lengths_most p.gates.cycle.0 ss plan_apart in omega (arith, p.gates.most)
+  plan_lengths = let m = lengths_most p.gates.cycle.0 ss plan_apart in omega (arith, p.gates.lawful.most)
 
   -- and are the sure ticks
   pub plan_sure : lengths ss ≡ sure_ticks_of (contents p) k
-  plan_sure = ap lengths e ∙ sym (sure_lengths p.gates.cycle.0 (cycle_some _ _ (law_of p.gates)) (opened (vec_items p.gates.lines)) (opened_later _ _ (law_of p.gates)) (longest (contents p)) k)
+  plan_sure = ap lengths e ∙ sym (sure_lengths p.gates.cycle.0 (cycle_some _ _ p.gates.lawful) (opened (vec_items p.gates.lines)) (opened_later _ _ p.gates.lawful) (longest (contents p)) k)
 
 -- no class above 7 sends
 pub longest_none : (p : Plan) (k : ℕ) → 7 < k → longest (contents p) k ≡ 0
@@ -74,7 +74,7 @@ longest_none p k h =
 -- no class has a larger frame than there is
 largest_most : (ts : List TrafficClass) (k : ℕ) → largest_of (map sizes_of ts) k ≤ most_frame
 largest_most [] k = omega arith
-largest_most (t ∷ ts) zero = t.most
+largest_most (t ∷ ts) zero = t.sized.most
 largest_most (t ∷ ts) (suc k) = largest_most ts k
 
 -- so no block is long

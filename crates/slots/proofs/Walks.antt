@@ -97,10 +97,6 @@ module _ (ls : List GateLine) (cycle : ℕ) (law : Lawful ls cycle) where
     pub test_at : (i t : ℕ) → i < length ls → start ls i ≤ t → t < start ls (suc i) → test (opened ls) t ≡ test (alone (line ls i)) 0
     test_at i t lt s e = at.same (opened ls) (alone (line ls i)) t 0 (λ k. opened_at k i t lt s e)
 
--- what a gate list keeps to
-pub law_of : (g : GateList) → Lawful (vec_items g.lines) g.cycle.0
-law_of g = record { each = g.each; together = g.together; some = g.some; few = g.few; most = g.most }
-
 -- the lines that a loop reads are the list's
 pub lines_same : (xs : List GateLine) (g h : GateList) → xs ≡ vec_items g.lines → g ≡ h → xs ≡ vec_items h.lines
 lines_same xs g h e f = e ∙ ap (λ (v : GateList). vec_items v.lines) f

@@ -21,7 +21,7 @@ returns-then-hold-eq0 c =
 
 pub invariant_of-first : goal.invariant_of-first
 unfolding total
-invariant_of-first c = record { there = c.args.plan.now.gates.some; begun = omega arith }
+invariant_of-first c = record { there = c.args.plan.now.gates.lawful.some; begun = omega arith }
 
 pub returns-then-clear_for-cycle : goal.returns-then-clear_for-cycle
 returns-then-clear_for-cycle c =

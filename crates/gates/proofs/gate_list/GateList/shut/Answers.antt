@@ -4,6 +4,4 @@ use Rattle.gates.proofs.Lines.{only_shut}
 use Rattle.gates.proofs.gate_list.GateList.shut.Goals as goal
 
 pub invariant_of-result : goal.invariant_of-result
-invariant_of-result c =
-    let law = only_shut _ (c.in_ok-push.ensures.items ∙ ap (λ xs. xs ++ shut_line ∷ []) c.new-lines.ensures.items) in
-    record { each = law.each; together = law.together; some = law.some; few = law.few; most = law.most }
+invariant_of-result c = record { lawful = only_shut _ (c.in_ok-push.ensures.items ∙ ap (λ xs. xs ++ shut_line ∷ []) c.new-lines.ensures.items) }

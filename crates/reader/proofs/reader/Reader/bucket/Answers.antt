@@ -22,7 +22,7 @@ returns-in-Ok c =
     let is = c.in-Ok.ensures in
     let n : c.in-Ok.bucket.num.0 ≡ c.in_ok-num.num = ap (λ x. x.0) is.1 in
     let d : c.in-Ok.bucket.den.0 ≡ c.in_ok-den.den = ap (λ x. x.0) is.2 in
-    let low : leb c.in_ok-num.num c.in_ok-den.den ≡ true = le-leb _ _ (omega (arith, c.in-Ok.bucket.num_most)) in
+    let low : leb c.in_ok-num.num c.in_ok-den.den ≡ true = le-leb _ _ (omega (arith, c.in-Ok.bucket.range.num_high)) in
     search rules
 
 pub returns-in-Err : goal.returns-in-Err

@@ -22,7 +22,7 @@ unfolding periodic_in number_field
 returns-in-Ok c =
     let is = c.in-Ok.ensures in
     let j : c.in-Ok.periodic.jitter.0 ≡ c.in_ok-jitter.jitter = ap (λ x. x.0) is.2 in
-    let low : Ok c.in_ok-jitter.jitter ≡ ranged c.args.self.now.line 0 most_jitter c.in_ok-jitter.jitter = in_range _ _ _ _ (omega arith) (omega (arith, c.in-Ok.periodic.jitter_most)) in
+    let low : Ok c.in_ok-jitter.jitter ≡ ranged c.args.self.now.line 0 most_jitter c.in_ok-jitter.jitter = in_range _ _ _ _ (omega arith) (omega (arith, c.in-Ok.periodic.range.jitter_high)) in
     search rules
 
 pub returns-in-Err : goal.returns-in-Err

@@ -9,7 +9,7 @@ use Rattle.curve.specs.Table.{table_of}
 use Rattle.curve.proofs.Least.{sure_least}
 use Rattle.slots.specs.OfPlan.{longest, slots_of}
 use Rattle.slots.specs.Listed.{items}
-use Rattle.slots.proofs.Walks.{law_of, cycle_some}
+use Rattle.slots.proofs.Walks.{cycle_some}
 use Rattle.slots.proofs.Gathers.{counted}
 use Rattle.slots.proofs.OfPlans.{plan_apart, plan_sure, plan_block}
 use Rattle.service.proofs.class_service.ClassService.of.Goals as goal
@@ -26,7 +26,7 @@ set_table-requires c =
     let s = c.in_ok-slots.slots in
     record {
       apart = subst (λ v. Apart v c.as_slice.result.now) (sym n) (plan_apart p c.args.class c.as_slice.result.now e);
-      short = omega (arith, n, p.gates.most);
+      short = omega (arith, n, p.gates.lawful.most);
       whole = c.in_ok-sure_ticks.ensures.1 ∙ sym (plan_sure p c.args.class c.as_slice.result.now e);
       room = omega (arith, ap length c.as_slice.ensures, counted s, s.few);
     }
@@ -37,14 +37,14 @@ invariant_of-result c =
     let n = same_cycle c.cycle-cycle.result.0 _ _ (ap (λ t. t.0) c.cycle-cycle.ensures) c.gates.ensures in
     let s = c.in_ok-slots.slots in
     let e = c.in_ok-slots.ensures.1 in
-    let some = cycle_some _ _ (law_of p.gates) in
+    let some = cycle_some _ _ p.gates.lawful in
     let b = plan_block p c.args.class in
     let table = subst (λ xs. take (2 * length xs + 1) c.set_table.new.marks ≡ table_of c.cycle-cycle.result.0 xs) c.as_slice.ensures c.set_table.ensures in
     let apart = subst (λ v. Apart v (items s)) (sym n) (plan_apart p c.args.class (items s) e) in
     let whole = c.in_ok-sure_ticks.ensures.1 ∙ sym (plan_sure p c.args.class (items s) e) in
     record {
       some = omega arith;
-      short = omega (arith, p.gates.most);
+      short = omega (arith, p.gates.lawful.most);
       apart = apart;
       whole = whole;
       low = omega (arith, c.in_ok-blocking.ensures.1);

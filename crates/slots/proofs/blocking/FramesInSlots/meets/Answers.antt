@@ -13,7 +13,7 @@ any-requires-clause-callable c =
           let z = c.args.self.now in
           let w = YieldsList-turn (YieldsList-from_slice z.slots.now (cc)) xs t y (Some x) u x refl s in
           let m = end_most z.plan.now.gates.cycle.0 z.slots.now z.apart c.args.begin c.args.end c.requires.inside x.now (length xs) w in
-          λ _ _ _ _ _ _. omega (arith, z.plan.now.gates.most);
+          λ _ _ _ _ _ _. omega (arith, z.plan.now.gates.lawful.most);
     }
 
 pub returns : goal.returns

@@ -1,5 +1,4 @@
 use Rattle.std.proofs.Common.{sym}
-use Rattle.slots.proofs.Walks.{law_of}
 use Rattle.slots.proofs.LineRuns.{blocked_shut, blocked_open}
 use Rattle.slots.proofs.runs.LineStartWaits.ticks.Goals as goal
 

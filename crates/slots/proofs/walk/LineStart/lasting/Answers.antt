@@ -5,7 +5,7 @@ use Rattle.calculus.specs.Searches.{lasts}
 use Rattle.gates.specs.declared.gate_line.GateLine.{GateLine}
 use Rattle.gates.specs.Opened.{total, opened, start, line}
 use Rattle.gates.proofs.Lines.{start_next, start_more}
-use Rattle.slots.proofs.Walks.{law_of, round, round_turn, round_end, round_fits, round_stop, round_all}
+use Rattle.slots.proofs.Walks.{round, round_turn, round_end, round_fits, round_stop, round_all}
 use Rattle.slots.proofs.walk.LineStart.lasting.Goals as goal
 
 pub loop-line-init : goal.loop-line-init
@@ -28,8 +28,8 @@ overflow_add-ticks g c =
     let t = round_turn (vec_items s.plan.now.gates.lines) s.index _ (cc) (cc) (cc) (cc) c.loop-line.yielded _ _ c.loop-line.yielded_by _ c.in-Some.line c.in-Some.is c.next.ensures.steps in
     let m = ap (λ (l : GateLine). l.length.0) t.1 in
     let n = start_next (round (vec_items s.plan.now.gates.lines) s.index) _ t.0 in
-    let f = round_fits _ _ (law_of s.plan.now.gates) s.index _ t.0 in
-    omega (arith, c.loop-line.invariant.added, s.plan.now.gates.most)
+    let f = round_fits _ _ s.plan.now.gates.lawful s.index _ t.0 in
+    omega (arith, c.loop-line.invariant.added, s.plan.now.gates.lawful.most)
 
 pub loop-line-preserved : goal.loop-line-preserved
 loop-line-preserved g c =

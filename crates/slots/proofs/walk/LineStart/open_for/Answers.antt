@@ -1,5 +1,5 @@
 use Rattle.std.proofs.Common.{◌≡◌, ◌<◌, ◌⊎◌, rules, sym, ◌∙◌, subst}
-use Rattle.slots.proofs.Walks.{law_of, open_at_tick, limit_most, limit_less}
+use Rattle.slots.proofs.Walks.{open_at_tick, limit_most, limit_less}
 use Rattle.slots.proofs.walk.LineStart.open_for.Goals as goal
 
 pub returns-then-limit-ticks : goal.returns-then-limit-ticks

@@ -2,7 +2,6 @@ use Rattle.std.proofs.Common.{not, ◌&&◌, vec_items, ap, sym, ◌∙◌}
 use Rattle.gates.specs.Opened.{line}
 use Rattle.sure_ticks.specs.Runs.{clear}
 use Rattle.slots.specs.Walks.{alone}
-use Rattle.slots.proofs.Walks.{law_of}
 use Rattle.slots.proofs.LineRuns.{begins_is}
 use Rattle.slots.proofs.walk.LineStart.run_begins.Goals as goal
 

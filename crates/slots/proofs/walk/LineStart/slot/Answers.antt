@@ -5,7 +5,7 @@ use Rattle.sure_ticks.specs.Runs.{blocking}
 use Rattle.sure_ticks.proofs.Found.{slot_at_there, slot_at_none, usable_most}
 use Rattle.slots.specs.Beginnings.{late}
 use Rattle.slots.specs.OfPlan.{longest}
-use Rattle.slots.proofs.Walks.{law_of, cycle_some, start_in}
+use Rattle.slots.proofs.Walks.{cycle_some, start_in}
 use Rattle.slots.proofs.walk.LineStart.slot.Goals as goal
 
 pub returns-then-not-run_begins : goal.returns-then-not-run_begins

@@ -1,7 +1,6 @@
 use Rattle.std.proofs.Common.{◌+◌, arith}
 use Rattle.calculus.proofs.Lasts.{lasts_most}
 use Rattle.gates.specs.Opened.{opened}
-use Rattle.slots.proofs.Walks.{law_of}
 use Rattle.slots.proofs.LineRuns.{usable_is}
 use Rattle.slots.proofs.walk.LineStart.usable_for.Goals as goal
 
