@@ -28,7 +28,7 @@ use Rattle.sure_ticks.proofs.Order.{slots_apart}
 use Rattle.sure_ticks.proofs.Sums.{lengths_most, sure_lengths}
 use Rattle.slots.specs.OfPlan.{longest, slots_of, sure_ticks_of, block_of}
 use Rattle.slots.specs.Turns.{Small}
-use Rattle.slots.proofs.Walks.{law_of, cycle_some, opened_later}
+use Rattle.slots.proofs.Walks.{cycle_some, opened_later}
 use Rattle.slots.proofs.LineRuns.{found_few}
 
 module _ (p : Plan) (k : ℕ) (ss : List Slot) (e : ss ≡ slots_of (contents p) k) where
@@ -47,7 +47,7 @@ module _ (p : Plan) (k : ℕ) (ss : List Slot) (e : ss ≡ slots_of (contents p)
       let M : ℕ → ℕ = longest (contents p) in
       let late : List Slot = found true L o M k L in
       let others : List Slot = found false L o M k L in
-      let all : length (late ++ others) ≤ most_slots = omega (arith, length-append late others, found_few _ _ (law_of p.gates) M k) in
+      let all : length (late ++ others) ≤ most_slots = omega (arith, length-append late others, found_few _ _ p.gates.lawful M k) in
       subst (λ v. length v ≤ most_slots) (sym e)
       (cond_both (nat_lt 0 (M k)) (cond (holds (clear o k) 0 L) (slot 0 L ∷ []) (late ++ others)) [] (λ v. length v ≤ most_slots)
       (λ _. cond_both (holds (clear o k) 0 L) (slot 0 L ∷ []) (late ++ others) (λ v. length v ≤ most_slots) (λ _. omega arith) (λ _. all)) (λ _. omega arith))

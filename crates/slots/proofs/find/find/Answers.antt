@@ -9,7 +9,6 @@ use Rattle.sure_ticks.specs.Runs.{clear}
 use Rattle.sure_ticks.specs.Slots.{slot, found}
 use Rattle.sure_ticks.proofs.Found.{slots_none, slots_always, slots_found}
 use Rattle.slots.specs.OfPlan.{longest}
-use Rattle.slots.proofs.Walks.{law_of}
 use Rattle.slots.proofs.LineRuns.{found_few}
 use Rattle.slots.proofs.find.find.Goals as goal
 
@@ -34,14 +33,14 @@ returns-then-clear_for-cycle c =
 
 pub gather-requires : goal.gather-requires
 gather-requires c =
-    let few = found_few _ _ (law_of c.args.plan.now.gates) (longest (contents c.args.plan.now)) c.args.class in
+    let few = found_few _ _ c.args.plan.now.gates.lawful (longest (contents c.args.plan.now)) c.args.class in
     omega (arith, few, ap length c.new-slots.ensures)
 
 pub gather-requires-2 : goal.gather-requires-2
 gather-requires-2 c =
     let g : GateList = c.args.plan.now.gates in
     let M : ℕ → ℕ = longest (contents c.args.plan.now) in
-    let few = found_few _ _ (law_of g) M c.args.class in
+    let few = found_few _ _ g.lawful M c.args.class in
     let n = ap length c.gather.ensures ∙ length-append (c.new-slots.result.items) (found true g.cycle.0 (opened (vec_items g.lines)) M c.args.class g.cycle.0) in
     omega (arith, few, n, ap length c.new-slots.ensures)
 

@@ -18,7 +18,7 @@ returns-then-not-passes g c = λ test at answers.
     let ls : List GateLine = vec_items s.plan.now.gates.lines in
     let t = round_turn (vec_items s.plan.now.gates.lines) s.index _ (cc) (cc) (cc) (cc) c.loop-line.yielded _ _ c.loop-line.yielded_by _ c.in-Some.line c.in-Some.is c.next.ensures.steps in
     let fails : FnReturnsAt g.F.Fn c.args.passes (line (round ls s.index) (length c.loop-line.yielded)) false = record { shown = c.in-Some.line; shows = t.1; says = record { met = c.if-not-passes.ensures } } in
-    let e = round_stop ls _ (law_of s.plan.now.gates) s.index test at _ t.0 (λ j lt. sym (answers _ true (c.loop-line.invariant.passed j lt))) (sym (answers _ false fails)) in
+    let e = round_stop ls _ s.plan.now.gates.lawful s.index test at _ t.0 (λ j lt. sym (answers _ true (c.loop-line.invariant.passed j lt))) (sym (answers _ false fails)) in
     let f = ap (λ a. lasts (test (opened ls)) a s.plan.now.gates.cycle.0) s.begun in
     cc
 
@@ -52,6 +52,6 @@ returns g c = λ test at answers.
     let s = c.args.self.now in
     let ls : List GateLine = vec_items s.plan.now.gates.lines in
     let le = round_end ls s.index _ (cc) (cc) (cc) (cc) c.loop-line.yielded _ _ c.loop-line.yielded_by _ c.in-None.is c.next.ensures.steps in
-    let e = round_all ls _ (law_of s.plan.now.gates) s.index test at _ le (λ j lt. sym (answers _ true (c.loop-line.invariant.passed j lt))) in
+    let e = round_all ls _ s.plan.now.gates.lawful s.index test at _ le (λ j lt. sym (answers _ true (c.loop-line.invariant.passed j lt))) in
     let f = ap (λ a. lasts (test (opened ls)) a s.plan.now.gates.cycle.0) s.begun in
     cc

@@ -17,10 +17,10 @@ pub slot_of-requires : goal.slot_of-requires
 slot_of-requires c =
     let s = c.args.self.now in
     let g = s.plan.now.gates in
-    let p = cycle_some _ _ (law_of g) in
-    let t = start_in _ _ (law_of g) s.index s.there in
+    let p = cycle_some _ _ g.lawful in
+    let t = start_in _ _ g.lawful s.index s.there in
     let u = usable_most g.cycle.0 (opened g.lines.items) (longest (contents s.plan.now) c.args.class) c.args.class (s.tick + g.cycle.0 - 1) in
-    record { some = omega arith; small = omega (arith, s.begun, g.most) }
+    record { some = omega arith; small = omega (arith, s.begun, g.lawful.most) }
 
 pub returns : goal.returns
 unfolding blocking
