@@ -5,3 +5,4 @@ pub mod Gathers
 pub mod Meets
 pub mod Turned
 pub mod OfPlans
+pub mod Lowers

@@ -11,7 +11,6 @@ use crate::lower::Waits;
 use crate::runs::hold;
 use plan::Plan;
 use sure_ticks::Slot;
-use units::Class;
 
 // The frames that can be on the wire at a tick of the slots.
 #[derive(Drop)]
@@ -25,7 +24,7 @@ impl<'a> Waits for FramesInSlots<'a> {
     ghost waits = { λ f k. (if any (λ t. covered f.plan.now.gates.cycle.0 f.slots.now t && opened f.plan.now.gates.lines.items k t) f.plan.now.gates.cycle.0 then longest (contents f.plan.now) k - 1 else 0) };
 
     // All but a tick of its largest frame, if the class is open at a tick of the slots.
-    fn ticks(&self, class: Class) -> u64 {
+    fn ticks(&self, class: u8) -> u64 {
         if !self.open_in_slots(class) {
             return 0;
         }
@@ -36,14 +35,13 @@ impl<'a> Waits for FramesInSlots<'a> {
 impl<'a> FramesInSlots<'a> {
     // Whether the class is open at some tick of the slots. The tick at which a line begins is carried along: `scan` would carry it in
     // a closure, and be no plainer.
-    fn open_in_slots(&self, class: Class) -> bool
-        ensures { result ≡ any (λ t. covered self.now.plan.now.gates.cycle.0 self.now.slots.now t && opened self.now.plan.now.gates.lines.items class.number t) self.now.plan.now.gates.cycle.0 }
+    fn open_in_slots(&self, class: u8) -> bool
+        ensures { result ≡ any (λ t. covered self.now.plan.now.gates.cycle.0 self.now.slots.now t && opened self.now.plan.now.gates.lines.items class t) self.now.plan.now.gates.cycle.0 }
     {
-        let number = u8::from(class);
         let mut begin = 0;
         for line in self.plan.gates().lines() {
             let end = begin + line.length.0;
-            if line.is_open(number) && self.meets(begin, end) {
+            if line.is_open(class) && self.meets(begin, end) {
                 return true;
             }
             begin = end;

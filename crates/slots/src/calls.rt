@@ -28,7 +28,7 @@ pub fn slots(plan: &Plan, class: u8, list: &mut [u32]) -> Result<usize, Refusal>
         × (list.new ≡ turns (slots_of (contents plan.now) class) ++ drop (2 * n) list.old))
         (λ e. (list.new ≡ list.old) × Refused class (length list.old) e) }
 {
-    let class = Class::try_from(class)?;
+    let class = u8::from(Class::try_from(class)?);
     if list.len() < MIN_LIST {
         return Err(Refusal::SlotSpace);
     }
@@ -41,7 +41,7 @@ pub fn slots(plan: &Plan, class: u8, list: &mut [u32]) -> Result<usize, Refusal>
 pub fn sure(plan: &Plan, class: u8) -> Result<Ticks, Refusal>
     ensures { ByClass class result (λ n. n.0 ≡ sure_ticks_of (contents plan.now) class) }
 {
-    let class = Class::try_from(class)?;
+    let class = u8::from(Class::try_from(class)?);
     let found = find(plan, class);
     Ok(Ticks(total_length(found.as_slice())))
 }
@@ -51,7 +51,7 @@ pub fn sure(plan: &Plan, class: u8) -> Result<Ticks, Refusal>
 pub fn block(plan: &Plan, class: u8) -> Result<Ticks, Refusal>
     ensures { ByClass class result (λ n. n.0 ≡ block_of (contents plan.now) class) }
 {
-    let class = Class::try_from(class)?;
+    let class = u8::from(Class::try_from(class)?);
     let found = find(plan, class);
     let frames = FramesInSlots {
         plan,

@@ -2,26 +2,20 @@
 ghost use Rattle.std.specs.Prelude.{◌≡◌, ℕ};
 ghost use Rattle.calculus.specs.Searches.{greatest};
 
-use units::Class;
-
 // For each class, for how many ticks a frame of it can keep a higher class waiting.
 pub(crate) trait Waits {
     ghost waits: { Self → ℕ → ℕ };
 
-    fn ticks(&self, class: Class) -> u64
-        ensures { result ≡ waits self.now class.number };
+    fn ticks(&self, class: u8) -> u64
+        ensures { result ≡ waits self.now class };
 }
 
-// The greatest over the classes below `class`, taken from the highest of them down.
-pub(crate) fn greatest_below<W: Waits>(frames: &W, class: Class) -> u64
-    ensures { result ≡ greatest (W.waits frames.now) class.number }
+// The greatest over the classes below `class`, and 0 for class 0.
+pub(crate) fn greatest_below<W: Waits>(frames: &W, class: u8) -> u64
+    ensures { result ≡ greatest (W.waits frames.now) class }
 {
-    let mut most = 0u64;
-    for number in (0..u8::from(class)).rev() {
-        // What is below a class is a class, so this is never refused.
-        if let Ok(lower) = Class::try_from(number) {
-            most = most.max(frames.ticks(lower));
-        }
-    }
-    most
+    (0..class)
+        .map(|lower| frames.ticks(lower))
+        .max()
+        .unwrap_or(0)
 }

@@ -13,7 +13,7 @@ use crate::lower::{Waits, greatest_below};
 use crate::walk::{LineStart, is_clear};
 use plan::Plan;
 use sure_ticks::Slot;
-use units::{Class, Ticks};
+use units::Ticks;
 
 // Where the slot of a run begins: in the cycle in which the run does, or past its end in the next one.
 #[derive(Clone, Copy)]
@@ -22,12 +22,12 @@ pub(crate) enum Beginning {
     NextCycle,
 }
 
-// For how many ticks the largest frame of a class holds the wire.
-pub(crate) fn hold(plan: &Plan, class: Class) -> u64
-    ensures value { result ≡ longest (contents plan.now) class.number }
+// For how many ticks the largest frame of a class holds the wire; no class above 7 sends any.
+pub(crate) fn hold(plan: &Plan, class: u8) -> u64
+    ensures value { result ≡ longest (contents plan.now) class }
     ensures small { result ≤ hold_limit }
 {
-    match plan.class(u8::from(class)) {
+    match plan.class(class) {
         Ok(sizes) => sizes.hold().0,
         Err(_) => 0,
     }
@@ -38,8 +38,8 @@ impl<'a> Waits for LineStart<'a> {
     ghost waits = { λ s k. blocked_by (opened s.plan.now.gates.lines.items) (longest (contents s.plan.now) k) (s.tick + s.plan.now.gates.cycle.0 - 1) k };
 
     // Not at all if the class is shut before the run, and otherwise until it shuts, but never for a whole frame.
-    fn ticks(&self, class: Class) -> u64 {
-        if !self.line_before().is_open(u8::from(class)) {
+    fn ticks(&self, class: u8) -> u64 {
+        if !self.line_before().is_open(class) {
             return 0;
         }
         let most = hold(self.plan, class).saturating_sub(1);
@@ -49,15 +49,15 @@ impl<'a> Waits for LineStart<'a> {
 
 impl<'a> LineStart<'a> {
     // Whether a clear run of the class begins with the line.
-    fn run_begins(&self, class: Class) -> bool
-        ensures { result ≡ begins (opened self.now.plan.now.gates.lines.items) class.number (self.now.tick + self.now.plan.now.gates.cycle.0 - 1) }
+    fn run_begins(&self, class: u8) -> bool
+        ensures { result ≡ begins (opened self.now.plan.now.gates.lines.items) class (self.now.tick + self.now.plan.now.gates.cycle.0 - 1) }
     {
         !is_clear(self.line_before(), class) && is_clear(self.line(), class)
     }
 
     // For how many ticks of the run that begins with the line a largest frame of the class can start and still leave.
-    fn usable_for(&self, class: Class) -> u64
-        ensures { result ≡ usable self.now.plan.now.gates.cycle.0 (opened self.now.plan.now.gates.lines.items) (longest (contents self.now.plan.now) class.number) class.number
+    fn usable_for(&self, class: u8) -> u64
+        ensures { result ≡ usable self.now.plan.now.gates.cycle.0 (opened self.now.plan.now.gates.lines.items) (longest (contents self.now.plan.now) class) class
             (self.now.tick + self.now.plan.now.gates.cycle.0 - 1) }
     {
         let frame = hold(self.plan, class);
@@ -67,8 +67,8 @@ impl<'a> LineStart<'a> {
     }
 
     // The slot of the run that begins with the line, if one does and its slot is asked for.
-    pub(crate) fn slot(&self, class: Class, asked: Beginning) -> Option<Slot>
-        ensures { listed result ≡ slot_at (late asked) self.now.plan.now.gates.cycle.0 (opened self.now.plan.now.gates.lines.items) (longest (contents self.now.plan.now)) class.number self.now.tick }
+    pub(crate) fn slot(&self, class: u8, asked: Beginning) -> Option<Slot>
+        ensures { listed result ≡ slot_at (late asked) self.now.plan.now.gates.cycle.0 (opened self.now.plan.now.gates.lines.items) (longest (contents self.now.plan.now)) class self.now.tick }
     {
         if !self.run_begins(class) {
             return None;

@@ -9,7 +9,6 @@ ghost use Rattle.slots.specs.Walks.{alone, previous, AtTick, Answers};
 
 use gates::GateLine;
 use plan::Plan;
-use units::Class;
 
 // A line of a plan's gate list, and the tick at which it begins.
 #[derive(Drop)]
@@ -50,18 +49,17 @@ impl<'a> LineStart<'a> {
     }
 
     // How many ticks in a row the class is clear from the line's beginning on, a cycle at the most.
-    pub(crate) fn clear_for(&self, class: Class) -> u64
-        ensures { result ≡ lasts (clear (opened self.now.plan.now.gates.lines.items) class.number) self.now.tick self.now.plan.now.gates.cycle.0 }
+    pub(crate) fn clear_for(&self, class: u8) -> u64
+        ensures { result ≡ lasts (clear (opened self.now.plan.now.gates.lines.items) class) self.now.tick self.now.plan.now.gates.cycle.0 }
     {
         self.lasting(|line| is_clear(line, class))
     }
 
     // How many ticks in a row the class is open from the line's beginning on, `limit` at the most.
-    pub(crate) fn open_for(&self, class: Class, limit: u64) -> u64
-        ensures { result ≡ lasts (opened self.now.plan.now.gates.lines.items class.number) self.now.tick limit }
+    pub(crate) fn open_for(&self, class: u8, limit: u64) -> u64
+        ensures { result ≡ lasts (opened self.now.plan.now.gates.lines.items class) self.now.tick limit }
     {
-        let number = u8::from(class);
-        let ticks = self.lasting(|line| line.is_open(number));
+        let ticks = self.lasting(|line| line.is_open(class));
         if ticks == self.cycle() || limit < ticks {
             limit
         } else {
@@ -89,10 +87,9 @@ impl<'a> LineStart<'a> {
 }
 
 // Whether the class is open in the line and every higher class is shut.
-pub(crate) fn is_clear(line: &GateLine, class: Class) -> bool
-    ensures { result ≡ clear (alone line.now) class.number 0 }
+pub(crate) fn is_clear(line: &GateLine, class: u8) -> bool
+    ensures { result ≡ clear (alone line.now) class 0 }
 {
-    let number = u8::from(class);
-    let outranked = (0..8u8).any(|higher| higher > number && line.is_open(higher));
-    !outranked && line.is_open(number)
+    let outranked = (0..8u8).any(|higher| higher > class && line.is_open(higher));
+    !outranked && line.is_open(class)
 }

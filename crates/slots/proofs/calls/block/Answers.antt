@@ -10,7 +10,7 @@ use Rattle.slots.proofs.OfPlans.{plan_apart}
 use Rattle.slots.proofs.calls.block.Goals as goal
 
 pub invariant_of-frames : goal.invariant_of-frames
-invariant_of-frames c = record { apart = plan_apart c.args.plan.now c.in_ok-class.class.number c.as_slice.result.now (c.as_slice.ensures ∙ c.find-found.ensures) }
+invariant_of-frames c = record { apart = plan_apart c.args.plan.now c.from-class.result c.as_slice.result.now (c.as_slice.ensures ∙ c.find-found.ensures) }
 
 pub returns : goal.returns
 unfolding sure block_of block
@@ -19,11 +19,11 @@ returns c =
     let L : ℕ = p.gates.cycle.0 in
     let o = opened (vec_items p.gates.lines) in
     let M : ℕ → ℕ = longest (contents p) in
-    let k = c.in_ok-class.class.number in
+    let k = c.from-class.result in
     let e = c.as_slice.ensures ∙ c.find-found.ensures in (
-      c.in_ok-class.ensures.0,
+      c.in_ok-try_from.ensures.0,
       c.greatest_below.ensures ∙
           greatest_same (λ k. cond (any (λ t. covered L c.as_slice.result.now t && o k t) L) (M k - 1) 0) (block_of L o M k) k
           (λ k _. ap (λ ss. cond (any (λ t. covered L ss t && o k t) L) (M k - 1) 0) e)
-          ∙ ap (OfPlan.block_of (contents p)) c.in_ok-class.ensures.1,
+          ∙ ap (OfPlan.block_of (contents p)) (c.from-class.ensures ∙ c.in_ok-try_from.ensures.1),
     )

@@ -1,4 +1,4 @@
-use Rattle.std.proofs.Common.{true, false, List, length, vec_items, sym, ap, ◌∙◌, arith, below_more}
+use Rattle.std.proofs.Common.{true, false, List, length, vec_items, sym, ap, arith, below_more}
 use Rattle.std.specs.Fn.{FnReturnsAt}
 use Rattle.std.proofs.lemmas.List.{length_push}
 use Rattle.calculus.specs.Searches.{lasts}
@@ -18,9 +18,9 @@ returns-then-not-passes g c = λ test at answers.
     let ls : List GateLine = vec_items s.plan.now.gates.lines in
     let t = round_turn (vec_items s.plan.now.gates.lines) s.index _ (cc) (cc) (cc) (cc) c.loop-line.yielded _ _ c.loop-line.yielded_by _ c.in-Some.line c.in-Some.is c.next.ensures.steps in
     let fails : FnReturnsAt g.F.Fn c.args.passes (line (round ls s.index) (length c.loop-line.yielded)) false = record { shown = c.in-Some.line; shows = t.1; says = record { met = c.if-not-passes.ensures } } in
-    c.loop-line.invariant.added
-    ∙ round_stop _ _ s.plan.now.gates.lawful s.index test at _ t.0 (λ j lt. sym (answers _ true (c.loop-line.invariant.passed j lt))) (sym (answers _ false fails))
-    ∙ ap (λ a. lasts (test (opened ls)) a s.plan.now.gates.cycle.0) (sym s.begun)
+    let e = round_stop ls _ s.plan.now.gates.lawful s.index test at _ t.0 (λ j lt. sym (answers _ true (c.loop-line.invariant.passed j lt))) (sym (answers _ false fails)) in
+    let f = ap (λ a. lasts (test (opened ls)) a s.plan.now.gates.cycle.0) s.begun in
+    cc
 
 pub overflow_add-ticks : goal.overflow_add-ticks
 overflow_add-ticks g c =
@@ -52,6 +52,6 @@ returns g c = λ test at answers.
     let s = c.args.self.now in
     let ls : List GateLine = vec_items s.plan.now.gates.lines in
     let le = round_end ls s.index _ (cc) (cc) (cc) (cc) c.loop-line.yielded _ _ c.loop-line.yielded_by _ c.in-None.is c.next.ensures.steps in
-    c.loop-line.invariant.added
-    ∙ round_all _ _ s.plan.now.gates.lawful s.index test at _ le (λ j lt. sym (answers _ true (c.loop-line.invariant.passed j lt)))
-    ∙ ap (λ a. lasts (test (opened ls)) a s.plan.now.gates.cycle.0) (sym s.begun)
+    let e = round_all ls _ s.plan.now.gates.lawful s.index test at _ le (λ j lt. sym (answers _ true (c.loop-line.invariant.passed j lt))) in
+    let f = ap (λ a. lasts (test (opened ls)) a s.plan.now.gates.cycle.0) s.begun in
+    cc

@@ -11,7 +11,7 @@ use Rattle.slots.proofs.walk.LineStart.slot.Goals as goal
 pub returns-then-not-run_begins : goal.returns-then-not-run_begins
 returns-then-not-run_begins c =
     let s = c.args.self.now in
-    sym (slot_at_none (late c.args.asked) s.plan.now.gates.cycle.0 (opened s.plan.now.gates.lines.items) (longest (contents s.plan.now)) c.args.class.number s.tick (sym c.if-not-run_begins.ensures))
+    sym (slot_at_none (late c.args.asked) s.plan.now.gates.cycle.0 (opened s.plan.now.gates.lines.items) (longest (contents s.plan.now)) c.args.class s.tick (sym c.if-not-run_begins.ensures))
 
 pub slot_of-requires : goal.slot_of-requires
 slot_of-requires c =
@@ -19,7 +19,7 @@ slot_of-requires c =
     let g = s.plan.now.gates in
     let p = cycle_some _ _ g.lawful in
     let t = start_in _ _ g.lawful s.index s.there in
-    let u = usable_most g.cycle.0 (opened g.lines.items) (longest (contents s.plan.now) c.args.class.number) c.args.class.number (s.tick + g.cycle.0 - 1) in
+    let u = usable_most g.cycle.0 (opened g.lines.items) (longest (contents s.plan.now) c.args.class) c.args.class (s.tick + g.cycle.0 - 1) in
     record { some = omega arith; small = omega (arith, s.begun, g.lawful.most) }
 
 pub returns : goal.returns
@@ -27,6 +27,6 @@ unfolding blocking
 returns c =
     let s = c.args.self.now in
     let g = s.plan.now.gates in
-    let w : c.greatest_below-wait.result ≡ blocking (opened g.lines.items) (longest (contents s.plan.now)) c.args.class.number (s.tick + g.cycle.0 - 1) = c.greatest_below-wait.ensures in
-    let e = slot_at_there (late c.args.asked) g.cycle.0 (opened g.lines.items) (longest (contents s.plan.now)) c.args.class.number s.tick (sym c.if-not-run_begins.ensures) in
+    let w : c.greatest_below-wait.result ≡ blocking (opened g.lines.items) (longest (contents s.plan.now)) c.args.class (s.tick + g.cycle.0 - 1) = c.greatest_below-wait.ensures in
+    let e = slot_at_there (late c.args.asked) g.cycle.0 (opened g.lines.items) (longest (contents s.plan.now)) c.args.class s.tick (sym c.if-not-run_begins.ensures) in
     cc
