@@ -1,6 +1,6 @@
 // Making the service of a class, and what it supplies.
-ghost use Rattle.std.specs.Prelude.{◌≡◌, ℕ, ◌+◌, ◌*◌, ◌<◌, ◌≤◌, MatchResult};
-ghost use Rattle.units.specs.declared.refusal.Refusal.TheVariants.{NoClass};
+ghost use Rattle.std.specs.Prelude.{◌≡◌, ℕ, ◌+◌, ◌*◌, ◌≤◌};
+ghost use Rattle.units.specs.Classes.{ByClass};
 ghost use Rattle.curve.specs.Table.{table_of};
 ghost use Rattle.plan.specs.PlanContents.{contents};
 ghost use Rattle.slots.specs.Listed.{items};
@@ -21,7 +21,7 @@ use units::{Bytes, Refusal, Ticks};
 impl ClassService {
     // The service of a class of a plan. Refused where there is no such class.
     pub fn of(plan: &Plan, class: u8) -> Result<ClassService, Refusal>
-        ensures { MatchResult result (λ s. (class ≤ 7) × ((n : ℕ) → served_by s.cycle.0 (items s.slots) s.block.0 n ≡ curve_of (contents plan.now) class n)) (λ e. (7 < class) × (e ≡ NoClass)) }
+        ensures { ByClass class result (λ s. (n : ℕ) → served_by s.cycle.0 (items s.slots) s.block.0 n ≡ curve_of (contents plan.now) class n) }
     {
         let slots = SlotList::of(plan, class)?;
         let sure_ticks = sure(plan, class)?;
