@@ -10,7 +10,7 @@ use Rattle.service.proofs.class_service.ClassService.first_with.Given as goal
 -- the mark k is where the search has come to, the windows of that length behind the slots so far have enough, and no shorter window has
 abbrev pub invariant-loop-slot : goal.invariant-loop-slot
 invariant-loop-slot l =
-    (l.k < length l.marks)
+    (l.k + 1 < length l.marks)
     × (l.done ≡ before_of l.marks l.slot-index)
     × (before_of l.marks l.k < before_of l.marks (l.slot-index) + l.ticks)
     × AllByRecursion (λ s. l.ticks ≤ count (covered l.self.cycle.0 l.slots) (end_of s) l.far) (take (l.slot-index) l.slots)

@@ -1,18 +1,16 @@
-use Rattle.std.proofs.Common.{◌≡◌, ◌≤◌, List, length, get_or, ltb, eqb-true, sym, ap, ◌∙◌, subst, rules, tests, arith, take_all}
+use Rattle.std.proofs.Common.{◌≡◌, ◌+◌, ◌-◌, ◌≤◌, List, length, get_or, eqb-true, sym, ap, ◌∙◌, subst, rules, tests, arith, take_all}
 use Rattle.std.specs.List.{AllByRecursion}
 use Rattle.std.proofs.lemmas.Bool.{eqb-false}
-use Rattle.std.proofs.lemmas.Fn.{always_returns_same}
 use Rattle.calculus.specs.Searches.{count}
 use Rattle.sure_ticks.specs.declared.slot.Slot.{Slot}
 use Rattle.sure_ticks.specs.Slots.{slot}
 use Rattle.sure_ticks.specs.Sure.{covered}
 use Rattle.slots.specs.Listed.{items}
-use Rattle.curve.specs.declared.mark.Mark.{Mark}
 use Rattle.curve.specs.Curve.{least_covered}
 use Rattle.curve.proofs.Sliding.{end_of}
 use Rattle.curve.proofs.Least.{least_below, least_most, least_empty, least_above}
-use Rattle.curve.proofs.Turns.{marks_size, first_before, turn, mark_le, window_turn, ends_more}
-use Rattle.service.proofs.Reaching.{ready_of, place_found}
+use Rattle.curve.proofs.Turns.{marks_size, first_before, last_place, turn, mark_le, window_turn, ends_more}
+use Rattle.service.proofs.Reaching.{passes, reached_from, ready_of}
 use Rattle.service.proofs.class_service.ClassService.least_in.Goals as goal
 
 pub returns-then-is_empty : goal.returns-then-is_empty
@@ -27,6 +25,7 @@ loop-slot-init c =
     let ms = c.as_slice-marks.result.now in
     let r = ready_of c.args.self.now ss ms c.as_slice-slots.ensures c.as_slice-marks.ensures.value in
     let n = marks_size L ss ms r in
+    let some = eqb-false (length ss) 0 (sym c.is_empty.ensures ∙ c.if-is_empty.false) in
     (least_most L r.some ss c.args.window, tt, omega arith, sym (first_before L ss ms r), omega arith)
 
 pub overflow_add-done : goal.overflow_add-done
@@ -65,6 +64,16 @@ overflow_add-end-in-loop-slot c =
     let t = turn L ss ms r c.loop-slot.slot-index c.loop-slot-test.true in
     omega (arith, c.first_begin-first.ensures, c.requires)
 
+pub reach-k-requires-clause-inside : goal.reach-k-requires-clause-inside
+reach-k-requires-clause-inside c =
+    let L = c.args.self.now.cycle.0 in
+    let ss = c.as_slice-slots.result.now in
+    let ms = c.as_slice-marks.result.now in
+    let r = ready_of c.args.self.now ss ms c.as_slice-slots.ensures c.as_slice-marks.ensures.value in
+    let t = turn L ss ms r c.loop-slot.slot-index c.loop-slot-test.true in
+    let l = last_place L ss ms r in
+    λ p. let m = passes _ _ (λ m. m.place.0) ((get_or ss c.loop-slot.slot-index (slot 0 0)).begin.0 - c.first_begin-first.result + (get_or ss c.loop-slot.slot-index (slot 0 0)).length.0 + c.args.window) (λ m q e. search (rules, tests)) ms _ p in omega (arith, m, c.first_begin-first.ensures, c.requires)
+
 pub before_place-requires : goal.before_place-requires
 before_place-requires c =
     let L = c.args.self.now.cycle.0 in
@@ -73,9 +82,8 @@ before_place-requires c =
     let r = ready_of c.args.self.now ss ms c.as_slice-slots.ensures c.as_slice-marks.ensures.value in
     let j = c.loop-slot.slot-index in
     let h = c.loop-slot-test.true in
-    let f = place_found L ss ms r j h c.loop-slot.k c.reach-k.result c.loop-slot.invariant.2 c.first_begin-first.result c.args.window c.first_begin-first.ensures c.requires c.loop-slot.invariant.4
-    (c.reach-k.ensures (λ (m : Mark). ltb m.place.0 _) (always_returns_same _ _ _ (λ a b q k. search (rules, tests)))) in
     let t = turn L ss ms r j h in
+    let f = reached_from _ _ (λ m. m.place.0) ((get_or ss c.loop-slot.slot-index (slot 0 0)).begin.0 - c.first_begin-first.result + (get_or ss c.loop-slot.slot-index (slot 0 0)).length.0 + c.args.window) (λ m q e. search (rules, tests)) ms c.loop-slot.k c.reach-k.result c.reach-k.ensures.there (omega (arith, c.loop-slot.invariant.4, c.first_begin-first.ensures)) c.reach-k.ensures.begun c.reach-k.ensures.ends in
     let m = mark_le L ss ms r c.reach-k.result f.there in
     record { there = f.there; begun = omega (arith, c.first_begin-first.ensures); small = omega (arith, c.first_begin-first.ensures, c.requires) }
 
@@ -87,9 +95,8 @@ overflow_sub-before_place c =
     let r = ready_of c.args.self.now ss ms c.as_slice-slots.ensures c.as_slice-marks.ensures.value in
     let j = c.loop-slot.slot-index in
     let h = c.loop-slot-test.true in
-    let f = place_found L ss ms r j h c.loop-slot.k c.reach-k.result c.loop-slot.invariant.2 c.first_begin-first.result c.args.window c.first_begin-first.ensures c.requires c.loop-slot.invariant.4
-    (c.reach-k.ensures (λ (m : Mark). ltb m.place.0 _) (always_returns_same _ _ _ (λ a b q k. search (rules, tests)))) in
     let t = turn L ss ms r j h in
+    let f = reached_from _ _ (λ m. m.place.0) ((get_or ss c.loop-slot.slot-index (slot 0 0)).begin.0 - c.first_begin-first.result + (get_or ss c.loop-slot.slot-index (slot 0 0)).length.0 + c.args.window) (λ m q e. search (rules, tests)) ms c.loop-slot.k c.reach-k.result c.reach-k.ensures.there (omega (arith, c.loop-slot.invariant.4, c.first_begin-first.ensures)) c.reach-k.ensures.begun c.reach-k.ensures.ends in
     let w = window_turn L ss ms r j c.reach-k.result c.args.window h f.there (omega arith) (omega arith) in
     omega (arith, c.before_place.ensures, c.first_begin-first.ensures)
 
@@ -101,14 +108,13 @@ loop-slot-preserved c =
     let r = ready_of c.args.self.now ss ms c.as_slice-slots.ensures c.as_slice-marks.ensures.value in
     let j = c.loop-slot.slot-index in
     let h = c.loop-slot-test.true in
-    let f = place_found L ss ms r j h c.loop-slot.k c.reach-k.result c.loop-slot.invariant.2 c.first_begin-first.result c.args.window c.first_begin-first.ensures c.requires c.loop-slot.invariant.4
-    (c.reach-k.ensures (λ (m : Mark). ltb m.place.0 _) (always_returns_same _ _ _ (λ a b q k. search (rules, tests)))) in
     let t = turn L ss ms r j h in
+    let f = reached_from _ _ (λ m. m.place.0) ((get_or ss c.loop-slot.slot-index (slot 0 0)).begin.0 - c.first_begin-first.result + (get_or ss c.loop-slot.slot-index (slot 0 0)).length.0 + c.args.window) (λ m q e. search (rules, tests)) ms c.loop-slot.k c.reach-k.result c.reach-k.ensures.there (omega (arith, c.loop-slot.invariant.4, c.first_begin-first.ensures)) c.reach-k.ensures.begun c.reach-k.ensures.ends in
     let w = window_turn L ss ms r j c.reach-k.result c.args.window h f.there (omega arith) (omega arith) in
     let n = least_below L r.some ss c.args.window (end_of (get_or ss j (slot 0 0))) in (
       omega (arith, c.loop-slot.invariant.0, c.min-best.ensures, c.before_place.ensures, c.first_begin-first.ensures),
       ends_more L ss c.args.window j c.loop-slot.best c.min-best.result (slot 0 0) h (omega (arith, c.min-best.ensures)) (omega (arith, c.min-best.ensures, c.before_place.ensures, c.first_begin-first.ensures)) c.loop-slot.invariant.1,
-      omega (arith, f.there),
+      f.there,
       omega (arith, c.loop-slot.invariant.3),
       omega (arith, f.begun),
     )

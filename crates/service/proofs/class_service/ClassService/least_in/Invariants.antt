@@ -12,6 +12,6 @@ abbrev pub invariant-loop-slot : goal.invariant-loop-slot
 invariant-loop-slot l =
     (least_covered l.self.cycle.0 l.slots l.window ≤ l.best)
     × AllByRecursion (λ s. l.best ≤ count (covered l.self.cycle.0 l.slots) (end_of s) l.window) (take (l.slot-index) l.slots)
-    × (l.k < length l.marks)
+    × (l.k + 1 < length l.marks)
     × (l.done ≡ before_of l.marks l.slot-index)
     × (place_of l.marks l.k ≤ place_of l.marks (l.slot-index) + l.window)

@@ -1,24 +1,16 @@
-use Rattle.std.proofs.Common.{◌+◌, [], ◌∷◌, Bor, drop, ap, ◌∙◌, take_all, arith}
-use Rattle.std.specs.Fn.{Called}
-use Rattle.std.specs.Slice.Iter.{iter_rest}
-use Rattle.std.proofs.lemmas.Iterator.{YieldsList-from_slice}
-use Rattle.std.proofs.lemmas.Iterator.Consumers.{count_from_yields_List}
-use Rattle.std.proofs.lemmas.Iterator.Search.{YieldsList-from_take_while}
-use Rattle.std.proofs.lemmas.List.{length-drop}
-use Rattle.std.proofs.lemmas.List.Folds.{length-prefix_len}
-use Rattle.curve.specs.declared.mark.Mark.{Mark}
+use Rattle.std.proofs.Common.{◌≡◌, ◌+◌, ◌-◌, ◌<◌, true, length, get_or, subst, inl, inr, rules, arith}
+use Rattle.std.specs.Fn.{FnReturnsAt}
+use Rattle.std.proofs.lemmas.Bool.{cases_lt}
+use Rattle.curve.specs.Table.{mark}
 use Rattle.service.proofs.class_service.search.reach.Goals as goal
 
-pub returns : goal.returns
-returns g c =
-    λ before computes.
+pub loop-k-preserved : goal.loop-k-preserved
+loop-k-preserved g c =
     let ms = c.args.marks.now in
-    let xs = drop (c.args.from + 1) ms in
-    let rest = ap iter_rest c.take_while.ensures.source ∙ c.iter.ensures.rest ∙ take_all _ xs (omega (arith, length-drop (c.args.from + 1) ms)) in
-    let passed = count_from_yields_List c.take_while.result _ c.count.ensures.ran
-    (YieldsList-from_take_while _ before (YieldsList-from_slice xs rest) c.take_while.ensures.closure c.take_while.ensures.done (λ x b q k.
-    let a : Bor (Bor Mark) × Unit {0} = (k.shown, tt) in
-    let called : Called g.B.Fn c.args.is_before a b q = record { met = k.called.met } in
-    (g.met.B.Fn.1.step_stays c.args.is_before a b q called, (computes.at (a ∷ []) b q called).0 ∙ ap (λ m. before m.now) k.shows)))
-    ∙ length-prefix_len before xs in
-    ap (λ n. c.args.from + n) passed
+    let k = c.loop-k.k in
+    let p : FnReturnsAt g.B.Fn c.args.is_before (get_or ms (k + 1) (mark 0 0)) true = search rules in
+    let there : k + 1 + 1 < length ms = elim (cases_lt (k + 1 + 1) (length ms)) [
+      | inl l ↦ l
+      | inr h ↦ absurd (let e : k + 1 ≡ length ms - 1 = omega arith in c.requires.inside (subst (λ i. FnReturnsAt g.B.Fn c.args.is_before (get_or ms i (mark 0 0)) true) e p))
+    ] in
+    (there, inr p)
