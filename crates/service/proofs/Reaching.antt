@@ -3,8 +3,10 @@ use Rattle.std.proofs.Common.{◌≡◌, ℕ, ◌+◌, ◌<◌, ◌≤◌, ◌�
 use Rattle.std.specs.Fn.{Shared, FnReturnsAt}
 use Rattle.std.proofs.lemmas.Bool.{ltb-true, ltb-false}
 use Rattle.sure_ticks.specs.declared.slot.Slot.{Slot}
+use Rattle.sure_ticks.specs.Slots.{slot}
 use Rattle.curve.specs.declared.mark.Mark.{Mark}
 use Rattle.curve.specs.Table.{mark, Ready}
+use Rattle.curve.proofs.Turns.{Turn, turn}
 use Rattle.slots.specs.Listed.{items}
 use Rattle.service.specs.declared.class_service.ClassService.{ClassService}
 
@@ -40,3 +42,7 @@ module _ {F : Type 0} (g : Shared F (Bor Mark × Unit {0}) Bool) (f : F) (key : 
 -- the table of a service, in lists that are its slots and its marks
 pub ready_of : (s : ClassService) (ss : List Slot) (ms : List Mark) → ss ≡ items s.slots → ms ≡ s.marks.items → Ready s.cycle.0 ss ms
 ready_of s ss ms e f = subst (λ xs. Ready s.cycle.0 xs ms) (sym e) (subst (Ready s.cycle.0 (items s.slots)) (sym f) s.ready)
+
+-- and what a turn of a loop over the slots reads off it
+pub turn_of : (s : ClassService) (ss : List Slot) (ms : List Mark) → ss ≡ items s.slots → ms ≡ s.marks.items → (j : ℕ) → j < length ss → Turn s.cycle.0 ss ms j (get_or ss j (slot 0 0))
+turn_of s ss ms e f j h = turn s.cycle.0 ss ms (ready_of s ss ms e f) j h

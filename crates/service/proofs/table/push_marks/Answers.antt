@@ -1,9 +1,7 @@
 use Rattle.std.proofs.Common.{◌+◌, ◌∙◌, arith}
-use Rattle.std.proofs.ByRecursion.{All-get_or}
 use Rattle.sure_ticks.specs.Slots.{slot}
 use Rattle.sure_ticks.proofs.Sums.{lengths_more, lengths_take_le}
-use Rattle.service.specs.Served.{From}
-use Rattle.service.proofs.Marked.{marked_none, marked_more, marked_length, marked_all}
+use Rattle.service.proofs.Marked.{marked_none, marked_more, marked_length}
 use Rattle.service.proofs.table.push_marks.Goals as goal
 
 pub loop-slot-init : goal.loop-slot-init
@@ -13,14 +11,6 @@ pub push-requires : goal.push-requires
 push-requires c =
     let n = marked_length c.args.slots.now c.args.first c.args.place c.args.before c.args.marks.now.items c.loop-slot.slot-index c.loop-slot.sum c.loop-slot.marks.items (omega arith) c.loop-slot.invariant in
     (omega arith, omega (arith, c.requires.room))
-
-pub overflow_sub-slot : goal.overflow_sub-slot
-overflow_sub-slot c = (All-get_or (From c.args.first) c.args.slots.now c.loop-slot.slot-index (slot 0 0) c.loop-slot-test.true c.requires.begins).0
-
-pub overflow_add-place : goal.overflow_add-place
-overflow_add-place c =
-    let f = All-get_or (From c.args.first) c.args.slots.now c.loop-slot.slot-index (slot 0 0) c.loop-slot-test.true c.requires.begins in
-    omega (arith, f.1, c.requires.low)
 
 pub overflow_add-sum : goal.overflow_add-sum
 overflow_add-sum c =
@@ -32,7 +22,3 @@ pub loop-slot-preserved : goal.loop-slot-preserved
 loop-slot-preserved c =
     let m = marked_more c.args.slots.now c.args.first c.args.place c.args.before c.args.marks.now.items c.loop-slot.slot-index c.loop-slot.sum c.loop-slot.marks.items c.loop-slot-test.true c.loop-slot.invariant in
     record { total = m.total; so_far = c.push.ensures.items ∙ m.so_far }
-
-pub returns : goal.returns
-returns c =
-    marked_all c.args.slots.now c.args.first c.args.place c.args.before c.args.marks.now.items c.loop-slot.slot-index c.loop-slot.sum c.loop-slot.marks.items c.loop-slot-test.false c.loop-slot.invariant

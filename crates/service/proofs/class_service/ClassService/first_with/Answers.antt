@@ -11,7 +11,7 @@ use Rattle.curve.specs.Laws.{FirstSpan}
 use Rattle.curve.proofs.Sliding.{end_of}
 use Rattle.curve.proofs.Least.{least_below, least_above}
 use Rattle.curve.proofs.Turns.{marks_size, first_before, last_before, turn, end_place, place_le, tick_turn, ends_wider}
-use Rattle.service.proofs.Reaching.{passes, reached_from, ready_of}
+use Rattle.service.proofs.Reaching.{passes, reached_from, ready_of, turn_of}
 use Rattle.service.proofs.class_service.ClassService.first_with.Goals as goal
 
 pub loop-slot-init : goal.loop-slot-init
@@ -27,11 +27,7 @@ loop-slot-init c =
 
 pub overflow_add-done : goal.overflow_add-done
 overflow_add-done c =
-    let L = c.args.self.now.cycle.0 in
-    let ss = c.as_slice-slots.result.now in
-    let ms = c.as_slice-marks.result.now in
-    let r = ready_of c.args.self.now ss ms c.as_slice-slots.ensures c.as_slice-marks.ensures.value in
-    let t = turn L ss ms r c.loop-slot.slot-index c.loop-slot-test.true in
+    let t = turn_of c.args.self.now _ _ c.as_slice-slots.ensures c.as_slice-marks.ensures.value c.loop-slot.slot-index c.loop-slot-test.true in
     omega (arith, c.loop-slot.invariant.1)
 
 pub overflow_add-number : goal.overflow_add-number
@@ -55,36 +51,25 @@ reach-k-requires-clause-inside c =
     let m : c.args.ticks ≤ lengths ss = subst (λ xs. c.args.ticks ≤ lengths xs) (sym c.as_slice-slots.ensures) c.requires.there in
     λ p. let k = passes _ _ (λ m. m.before.0) (c.loop-slot.done + (get_or ss c.loop-slot.slot-index (slot 0 0)).length.0 + c.args.ticks) (λ m q e. search (rules, tests)) ms _ p in omega (arith, k, c.loop-slot.invariant.1)
 
-pub place_after-end-requires : goal.place_after-end-requires
-place_after-end-requires c =
-    let L = c.args.self.now.cycle.0 in
-    let ss = c.as_slice-slots.result.now in
-    let ms = c.as_slice-marks.result.now in
-    let r = ready_of c.args.self.now ss ms c.as_slice-slots.ensures c.as_slice-marks.ensures.value in
-    let j = c.loop-slot.slot-index in
-    let h = c.loop-slot-test.true in
-    let t = turn L ss ms r j h in
-    let f = reached_from _ _ (λ m. m.before.0) (c.loop-slot.done + (get_or ss c.loop-slot.slot-index (slot 0 0)).length.0 + c.args.ticks) (λ m q e. search (rules, tests)) ms c.loop-slot.k c.reach-k.result c.reach-k.ensures.there (omega (arith, c.loop-slot.invariant.1, c.loop-slot.invariant.2)) c.reach-k.ensures.begun c.reach-k.ensures.ends in
-    let m : c.args.ticks ≤ lengths ss = subst (λ xs. c.args.ticks ≤ lengths xs) (sym c.as_slice-slots.ensures) c.requires.there in
-    let p = place_le L ss ms r c.reach-k.result (omega arith) in
-    record { there = omega arith; begun = omega (arith, c.loop-slot.invariant.1); small = omega (arith, c.loop-slot.invariant.1) }
-
-pub overflow_sub-slot : goal.overflow_sub-slot
-overflow_sub-slot c =
+pub place_after-end-requires-clause-small : goal.place_after-end-requires-clause-small
+place_after-end-requires-clause-small c =
     let L = c.args.self.now.cycle.0 in
     let ss = c.as_slice-slots.result.now in
     let ms = c.as_slice-marks.result.now in
     let r = ready_of c.args.self.now ss ms c.as_slice-slots.ensures c.as_slice-marks.ensures.value in
     let t = turn L ss ms r c.loop-slot.slot-index c.loop-slot-test.true in
+    let m : c.args.ticks ≤ lengths ss = subst (λ xs. c.args.ticks ≤ lengths xs) (sym c.as_slice-slots.ensures) c.requires.there in
+    let p = place_le L ss ms r c.reach-k.result (omega (arith, c.reach-k.ensures.there)) in
+    omega (arith, c.loop-slot.invariant.1)
+
+pub overflow_sub-slot : goal.overflow_sub-slot
+overflow_sub-slot c =
+    let t = turn_of c.args.self.now _ _ c.as_slice-slots.ensures c.as_slice-marks.ensures.value c.loop-slot.slot-index c.loop-slot-test.true in
     omega (arith, c.first_begin-first.ensures)
 
 pub overflow_add-slot : goal.overflow_add-slot
 overflow_add-slot c =
-    let L = c.args.self.now.cycle.0 in
-    let ss = c.as_slice-slots.result.now in
-    let ms = c.as_slice-marks.result.now in
-    let r = ready_of c.args.self.now ss ms c.as_slice-slots.ensures c.as_slice-marks.ensures.value in
-    let t = turn L ss ms r c.loop-slot.slot-index c.loop-slot-test.true in
+    let t = turn_of c.args.self.now _ _ c.as_slice-slots.ensures c.as_slice-marks.ensures.value c.loop-slot.slot-index c.loop-slot-test.true in
     omega (arith, c.first_begin-first.ensures)
 
 pub overflow_sub-end : goal.overflow_sub-end

@@ -10,7 +10,7 @@ use Rattle.curve.specs.Curve.{least_covered}
 use Rattle.curve.proofs.Sliding.{end_of}
 use Rattle.curve.proofs.Least.{least_below, least_most, least_empty, least_above}
 use Rattle.curve.proofs.Turns.{marks_size, first_before, last_place, turn, mark_le, window_turn, ends_more}
-use Rattle.service.proofs.Reaching.{passes, reached_from, ready_of}
+use Rattle.service.proofs.Reaching.{passes, reached_from, ready_of, turn_of}
 use Rattle.service.proofs.class_service.ClassService.least_in.Goals as goal
 
 pub returns-then-is_empty : goal.returns-then-is_empty
@@ -30,38 +30,22 @@ loop-slot-init c =
 
 pub overflow_add-done : goal.overflow_add-done
 overflow_add-done c =
-    let L = c.args.self.now.cycle.0 in
-    let ss = c.as_slice-slots.result.now in
-    let ms = c.as_slice-marks.result.now in
-    let r = ready_of c.args.self.now ss ms c.as_slice-slots.ensures c.as_slice-marks.ensures.value in
-    let t = turn L ss ms r c.loop-slot.slot-index c.loop-slot-test.true in
+    let t = turn_of c.args.self.now _ _ c.as_slice-slots.ensures c.as_slice-marks.ensures.value c.loop-slot.slot-index c.loop-slot-test.true in
     omega (arith, c.loop-slot.invariant.3)
 
 pub overflow_sub-end : goal.overflow_sub-end
 overflow_sub-end c =
-    let L = c.args.self.now.cycle.0 in
-    let ss = c.as_slice-slots.result.now in
-    let ms = c.as_slice-marks.result.now in
-    let r = ready_of c.args.self.now ss ms c.as_slice-slots.ensures c.as_slice-marks.ensures.value in
-    let t = turn L ss ms r c.loop-slot.slot-index c.loop-slot-test.true in
+    let t = turn_of c.args.self.now _ _ c.as_slice-slots.ensures c.as_slice-marks.ensures.value c.loop-slot.slot-index c.loop-slot-test.true in
     omega (arith, c.first_begin-first.ensures)
 
 pub overflow_add-end : goal.overflow_add-end
 overflow_add-end c =
-    let L = c.args.self.now.cycle.0 in
-    let ss = c.as_slice-slots.result.now in
-    let ms = c.as_slice-marks.result.now in
-    let r = ready_of c.args.self.now ss ms c.as_slice-slots.ensures c.as_slice-marks.ensures.value in
-    let t = turn L ss ms r c.loop-slot.slot-index c.loop-slot-test.true in
+    let t = turn_of c.args.self.now _ _ c.as_slice-slots.ensures c.as_slice-marks.ensures.value c.loop-slot.slot-index c.loop-slot-test.true in
     omega (arith, c.first_begin-first.ensures)
 
 pub overflow_add-end-in-loop-slot : goal.overflow_add-end-in-loop-slot
 overflow_add-end-in-loop-slot c =
-    let L = c.args.self.now.cycle.0 in
-    let ss = c.as_slice-slots.result.now in
-    let ms = c.as_slice-marks.result.now in
-    let r = ready_of c.args.self.now ss ms c.as_slice-slots.ensures c.as_slice-marks.ensures.value in
-    let t = turn L ss ms r c.loop-slot.slot-index c.loop-slot-test.true in
+    let t = turn_of c.args.self.now _ _ c.as_slice-slots.ensures c.as_slice-marks.ensures.value c.loop-slot.slot-index c.loop-slot-test.true in
     omega (arith, c.first_begin-first.ensures, c.requires)
 
 pub reach-k-requires-clause-inside : goal.reach-k-requires-clause-inside
