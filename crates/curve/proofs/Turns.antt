@@ -31,14 +31,6 @@ chain_ends L limit (s ∷ ss) c = let n = next_le L limit ss c.3 in (omega arith
 slots_end : (L : ℕ) (ss : List Slot) → Apart L ss → AllByRecursion (λ s. end_of s ≤ next 0 ss + L) ss
 slots_end L ss v = chain_ends L (next 0 ss + L) ss (chain_of L (next 0 ss + L) ss v)
 
--- where f has not come to x, which it does at the last of n, there are more
-pub not_last : (f : ℕ → ℕ) (n k x : ℕ) → k + 1 < n → f (k + 1) < x → x ≤ f (n - 1) → k + 1 + 1 < n
-not_last f n k x h low high =
-    elim (cases_lt (k + 1 + 1) n) [
-      | inl l ↦ l
-      | inr g ↦ absurd (let e : f (k + 1) ≡ f (n - 1) = ap f (omega arith) in omega arith)
-    ]
-
 -- windows of d ticks from the ends of the first slots on: one slot more, and a least that is no more
 pub ends_more : (L : ℕ) (ss : List Slot) (d i best less : ℕ) (x : Slot) → i < length ss → less ≤ best → less ≤ count (covered L ss) (end_of (get_or ss i x)) d →
     AllByRecursion (λ s. best ≤ count (covered L ss) (end_of s) d) (take i ss) → AllByRecursion (λ s. less ≤ count (covered L ss) (end_of s) d) (take (i + 1) ss)

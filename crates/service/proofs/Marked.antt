@@ -48,25 +48,27 @@ pub marked_all : (ss : List Slot) (first place before : ℕ) (old : List Mark) (
 marked_all ss first place before old i sum marks le m = m.so_far ∙ ap (λ v. old ++ marks_of first place before v) (take_all i ss le)
 
 -- the slots do not begin before the first of them
-pub from_first_lem : (L : ℕ) (ss : List Slot) → Apart L ss → L ≤ most_cycle → (first : ℕ) → first ≡ next 0 ss → AllByRecursion (From first) ss
-from_first_lem L ss v short first e =
-    All-from_get_or (From first) ss (slot 0 0) (λ i lt.
+pub from_first_lem : (L : ℕ) (ss : List Slot) → Apart L ss → L ≤ most_cycle → AllByRecursion (From (next 0 ss)) ss
+from_first_lem L ss v short =
+    All-from_get_or (From (next 0 ss)) ss (slot 0 0) (λ i lt.
     let b = All-get_or (λ (s : Slot). next 0 ss ≤ s.begin.0) ss i (slot 0 0) lt (first_begins L ss v) in
     let f = slot_fits L ss i (slot 0 0) v lt in
-    (omega arith, omega (arith, f.0)))
+    (b, omega (arith, f.0)))
+
+-- how many marks there are after those of the slots
+pub pushed : (old new : List Mark) (place before : ℕ) (ss : List Slot) → new ≡ old ++ marks_of (next 0 ss) place before ss → length new ≡ length old + length ss
+pushed old new place before ss e = omega (arith, ap length e, length-append old (marks_of (next 0 ss) place before ss), marks_length (next 0 ss) place before ss)
 
 -- the marks of two cycles and of where they end are the table
-pub all_marked : (L : ℕ) (ss : List Slot) (first sure : ℕ) (m₀ m₁ m₂ m₃ : List Mark) → first ≡ next 0 ss → sure ≡ lengths ss → m₀ ≡ [] →
-    m₁ ≡ m₀ ++ marks_of first 0 0 ss → m₂ ≡ m₁ ++ marks_of first L sure ss → m₃ ≡ m₂ ++ (mark (2 * L) (2 * sure) ∷ []) → m₃ ≡ table_of L ss
+pub all_marked : (L : ℕ) (ss : List Slot) (sure place before : ℕ) (m₀ m₁ m₂ m₃ : List Mark) → place ≡ 0 → before ≡ 0 → sure ≡ lengths ss → m₀ ≡ [] → m₁ ≡ m₀ ++ marks_of (next 0 ss) place before ss →
+    m₂ ≡ m₁ ++ marks_of (next 0 ss) L sure ss → m₃ ≡ m₂ ++ (mark (2 * L) (2 * sure) ∷ []) → m₃ ≡ table_of L ss
 unfolding table_of
-all_marked L ss first sure m₀ m₁ m₂ m₃ f s none e₁ e₂ e₃ =
-    let a : ℕ → List Mark = λ b. marks_of b 0 0 ss in
+all_marked L ss sure place before m₀ m₁ m₂ m₃ p q s none e₁ e₂ e₃ =
+    let a : List Mark = marks_of (next 0 ss) 0 0 ss in
+    let b : ℕ → List Mark = λ n. marks_of (next 0 ss) L n ss in
     let z : List Mark = mark (2 * L) (2 * sure) ∷ [] in
     let two : 2 * L ≡ L + L = omega arith in
     let twice : 2 * sure ≡ lengths ss + lengths ss = omega arith in
-    let start : m₁ ≡ a first = e₁ ∙ ap (λ xs. xs ++ a first) none in
-    e₃ ∙ ap (λ xs. xs ++ z) e₂ ∙ ap (λ xs. (xs ++ marks_of first L sure ss) ++ z) start ∙ append_assoc (a first) (marks_of first L sure ss) z
-    ∙ ap (λ b. a b ++ (marks_of b L sure ss ++ z)) f
-    ∙ ap (λ n. a (next 0 ss) ++ (marks_of (next 0 ss) L n ss ++ z)) s
-    ∙ ap (λ n. a (next 0 ss) ++ (marks_of (next 0 ss) L (lengths ss) ss ++ (mark n (2 * sure) ∷ []))) two
-    ∙ ap (λ n. a (next 0 ss) ++ (marks_of (next 0 ss) L (lengths ss) ss ++ (mark (L + L) n ∷ []))) twice
+    let begun : m₁ ≡ a = e₁ ∙ ap (λ xs. xs ++ marks_of (next 0 ss) place before ss) none ∙ ap (λ n. marks_of (next 0 ss) n before ss) p ∙ ap (λ n. marks_of (next 0 ss) 0 n ss) q in
+    e₃ ∙ ap (λ xs. xs ++ z) e₂ ∙ ap (λ xs. (xs ++ b sure) ++ z) begun ∙ append_assoc a (b sure) z ∙ ap (λ n. a ++ (b n ++ z)) s ∙ ap (λ n. a ++ (b (lengths ss) ++ (mark n (2 * sure) ∷ []))) two
+    ∙ ap (λ n. a ++ (b (lengths ss) ++ (mark (L + L) n ∷ []))) twice

@@ -24,10 +24,13 @@ pub(crate) fn table(cycle: u64, slots: &[Slot], sure: u64) -> ArrayVec<Mark, MAX
     requires few { length slots.now ≤ most_slots }
     ensures { result.items ≡ table_of cycle slots.now }
 {
-    let first = first_begin(slots);
     let mut marks = ArrayVec::new();
-    push_marks(&mut marks, slots, first, 0, 0);
-    push_marks(&mut marks, slots, first, cycle, sure);
+    push_marks(&mut marks, slots, Mark::default());
+    let next = Mark {
+        place: Ticks(cycle),
+        before: Ticks(sure),
+    };
+    push_marks(&mut marks, slots, next);
     marks.push(Mark {
         place: Ticks(2 * cycle),
         before: Ticks(2 * sure),
@@ -42,25 +45,20 @@ pub(crate) fn first_begin(slots: &[Slot]) -> u64
     slots.first().map_or(0, |slot| slot.begin.0)
 }
 
-// Adds a mark for each slot, in a cycle in which the first slot has a place and so many sure ticks before it.
-fn push_marks(
-    marks: &mut ArrayVec<Mark, MAX_MARKS>,
-    slots: &[Slot],
-    first: u64,
-    place: u64,
-    before: u64,
-)
-    requires begins { AllByRecursion (From first) slots.now }
+// Adds a mark for each slot, in a cycle in which the first slot has the mark `start`.
+fn push_marks(marks: &mut ArrayVec<Mark, MAX_MARKS>, slots: &[Slot], start: Mark)
+    requires begins { AllByRecursion (From (next 0 slots.now)) slots.now }
     requires all { lengths slots.now ≤ most_cycle }
-    requires low { place ≤ most_cycle }
-    requires sure { before ≤ most_cycle }
+    requires low { start.place.0 ≤ most_cycle }
+    requires sure { start.before.0 ≤ most_cycle }
     requires room { length marks.old.items + length slots.now ≤ 2 * most_slots }
-    ensures { marks.new.items ≡ marks.old.items ++ marks_of first place before slots.now }
+    ensures { marks.new.items ≡ marks.old.items ++ marks_of (next 0 slots.now) start.place.0 start.before.0 slots.now }
 {
-    let mut sum = before;
+    let first = first_begin(slots);
+    let mut sum = start.before.0;
     for slot in slots {
         marks.push(Mark {
-            place: Ticks(place + (slot.begin.0 - first)),
+            place: Ticks(start.place.0 + (slot.begin.0 - first)),
             before: Ticks(sum),
         });
         sum += slot.length.0;

@@ -5,11 +5,11 @@ use Rattle.service.proofs.Marked.{marked_none, marked_more, marked_length}
 use Rattle.service.proofs.table.push_marks.Goals as goal
 
 pub loop-slot-init : goal.loop-slot-init
-loop-slot-init c = marked_none c.args.slots.now c.args.first c.args.place c.args.before c.args.marks.now.items
+loop-slot-init c = marked_none c.args.slots.now c.first_begin-first.result c.args.start.place.0 c.args.start.before.0 c.args.marks.now.items
 
 pub push-requires : goal.push-requires
 push-requires c =
-    let n = marked_length c.args.slots.now c.args.first c.args.place c.args.before c.args.marks.now.items c.loop-slot.slot-index c.loop-slot.sum c.loop-slot.marks.items (omega arith) c.loop-slot.invariant in
+    let n = marked_length _ _ _ _ _ _ _ _ (omega arith) c.loop-slot.invariant in
     (omega arith, omega (arith, c.requires.room))
 
 pub overflow_add-sum : goal.overflow_add-sum
@@ -20,5 +20,5 @@ overflow_add-sum c =
 
 pub loop-slot-preserved : goal.loop-slot-preserved
 loop-slot-preserved c =
-    let m = marked_more c.args.slots.now c.args.first c.args.place c.args.before c.args.marks.now.items c.loop-slot.slot-index c.loop-slot.sum c.loop-slot.marks.items c.loop-slot-test.true c.loop-slot.invariant in
+    let m = marked_more _ _ _ _ _ _ _ _ c.loop-slot-test.true c.loop-slot.invariant in
     record { total = m.total; so_far = c.push.ensures.items ∙ m.so_far }
