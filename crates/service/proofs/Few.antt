@@ -11,7 +11,6 @@ use Rattle.sure_ticks.specs.declared.slot.Slot.{Slot}
 use Rattle.sure_ticks.specs.Runs.{clear}
 use Rattle.sure_ticks.specs.Slots.{slot, slots, found}
 use Rattle.slots.specs.OfPlan.{longest, slots_of}
-use Rattle.slots.proofs.Walks.{law_of}
 use Rattle.slots.proofs.LineRuns.{found_few}
 
 -- at most as many as a list of them has room for
