@@ -1,4 +1,5 @@
 // What may arrive for a traffic class: the envelope of all its flows.
+// The calls take a plan and the number of a class: a struct of the two would be made for each call and taken apart at once.
 #![tactic(auto)]
 
 ghost use Rattle.std.specs.Prelude.{◌≡◌, ℕ, length};

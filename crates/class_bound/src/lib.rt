@@ -1,4 +1,5 @@
 // Delay and held bytes of a traffic class of a plan.
+// The calls take a plan and the number of a class: a struct of the two would be made for each call and taken apart at once.
 #![tactic(auto)]
 
 ghost use Rattle.std.specs.Prelude.{◌<◌, length, MatchResult};
