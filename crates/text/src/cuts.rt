@@ -14,6 +14,7 @@ pub fn cut<'a>(text: &'a [u8], byte: u8) -> (&'a [u8], &'a [u8])
 }
 
 // How often `byte` stands in the text.
+#[tactic(auto, unfolding(crate::specs::Cuts::how_many))]
 pub fn count(text: &[u8], byte: u8) -> usize
     ensures { result ≡ how_many byte text.now }
 {
