@@ -15,6 +15,7 @@ use units::Bytes;
 
 impl Reader<'_> {
     // The number on the next line, from `least` to `most`.
+    #[tactic(auto, unfolding(crate::specs::Entries::number_line))]
     pub(crate) fn number_line(&mut self, due: Key, least: u64, most: u64) -> Result<u64, LineFault>
         requires { self.old.line < 1000 }
         ensures value { result ≡ number_line self.old.line due least most self.old.rest.now }
@@ -28,6 +29,7 @@ impl Reader<'_> {
         Ok(fields.number(least, most)?)
     }
 
+    #[tactic(auto, unfolding(crate::specs::Entries::gate_line))]
     pub(crate) fn gate_line(&mut self) -> Result<GateLine, LineFault>
         requires { self.old.line < 1000 }
         ensures value { result ≡ gate_line self.old.line self.old.rest.now }
@@ -42,6 +44,7 @@ impl Reader<'_> {
     }
 
     // The next class line, which has to be that of the class `due`.
+    #[tactic(auto, unfolding(crate::specs::Entries::class_line))]
     pub(crate) fn class_line(&mut self, due: u8) -> Result<TrafficClass, PlanFault>
         requires { self.old.line < 1000 }
         ensures value { map_ok sizes_of result ≡ class_line self.old.line due self.old.rest.now }
@@ -59,6 +62,7 @@ impl Reader<'_> {
     }
 
     // The next flow line, after one at the place `last`.
+    #[tactic(auto, unfolding(crate::specs::Entries::flow_line))]
     pub(crate) fn flow_line(
         &mut self,
         classes: &[TrafficClass; 8],

@@ -30,6 +30,7 @@ impl Reader<'_> {
     }
 
     // The number in the next field, from `least` to `most`.
+    #[tactic(auto, unfolding(crate::specs::Fields::number_field))]
     pub(crate) fn number(&mut self, least: u64, most: u64) -> Result<u64, FieldFault>
         ensures value { result ≡ number_field self.old.line least most (before comma self.old.rest.now) }
         ensures bound { IfOk result (λ n. (least ≤ n) × (n ≤ most)) }
@@ -70,6 +71,7 @@ impl Reader<'_> {
     }
 
     // A gate line: its length and its gates.
+    #[tactic(auto, unfolding(crate::specs::Fields::gate_in))]
     pub(crate) fn gate(&mut self) -> Result<GateLine, FieldFault>
         ensures value { result ≡ gate_in self.old.line self.old.rest.now }
         ensures bound { IfOk result LengthFits }
@@ -80,6 +82,7 @@ impl Reader<'_> {
     }
 
     // The largest frame of a class, 0 or 64 to 1,522 bytes.
+    #[tactic(auto, unfolding(crate::specs::Fields::largest_field))]
     fn largest(&mut self) -> Result<u64, FieldFault>
         ensures value { result ≡ largest_field self.old.line (before comma self.old.rest.now) }
         ensures bound { IfOk result (λ n. (n ≤ most_frame) × (1 ≤ n → least_frame ≤ n)) }
@@ -94,6 +97,7 @@ impl Reader<'_> {
     }
 
     // The sizes of a class: its largest frame and its depth.
+    #[tactic(auto, unfolding(crate::specs::Fields::sizes_in))]
     pub(crate) fn sizes(&mut self) -> Result<TrafficClass, FieldFault>
         ensures { map_ok sizes_of result ≡ sizes_in self.old.line self.old.rest.now }
     {
@@ -114,6 +118,7 @@ impl Reader<'_> {
     }
 
     // The numbers of a bucket. Its rate is at most a byte a tick, which is seen once all three are read.
+    #[tactic(auto, unfolding(crate::specs::Fields::bucket_in))]
     fn bucket(&mut self) -> Result<Flow, FieldFault>
         ensures { map_ok flow_of result ≡ bucket_in self.old.line self.old.rest.now }
     {
@@ -127,6 +132,7 @@ impl Reader<'_> {
     }
 
     // The numbers of a periodic flow, whose frames are no longer than `largest`.
+    #[tactic(auto, unfolding(crate::specs::Fields::periodic_in))]
     fn periodic(&mut self, largest: Bytes) -> Result<Flow, FieldFault>
         requires { largest.0 ≤ most_frame }
         ensures { map_ok flow_of result ≡ periodic_in self.old.line largest.0 self.old.rest.now }

@@ -25,6 +25,7 @@ pub struct Header {
 }
 
 impl Reader<'_> {
+    #[tactic(auto, unfolding(crate::specs::Reading::header_in))]
     pub(crate) fn header(&mut self) -> Result<Header, LineFault>
         requires { self.old.line ≡ 1 }
         ensures value { result ≡ header_in self.old.rest.now }
@@ -39,6 +40,7 @@ impl Reader<'_> {
     }
 
     // The gate list on the lines after the header, by way of `lines`, which has room for it.
+    #[tactic(auto, unfolding(crate::specs::Reading::gates_listed))]
     pub(crate) fn gate_list(
         &mut self,
         header: Header,
@@ -97,6 +99,7 @@ impl Reader<'_> {
     }
 
     // The number of flow lines and those lines, with which the text ends, by way of `flows`, which has room for them.
+    #[tactic(auto, unfolding(crate::specs::Reading::flows_listed))]
     pub(crate) fn flow_list(
         &mut self,
         classes: &[TrafficClass; 8],

@@ -46,6 +46,7 @@ impl<'a> Reader<'a> {
     }
 
     // The fields of the next line, which has to have the due key and so many commas between its fields.
+    #[tactic(auto, unfolding(crate::specs::Entries::due_line))]
     pub(crate) fn due_line(&mut self, due: Key, commas: usize) -> Result<&'a [u8], LineFault>
         requires { self.old.line < 1000 }
         ensures value { content result ≡ due_line self.old.line due commas self.old.rest.now }

@@ -37,6 +37,7 @@ fn read_text(text: &[u8], lines: Vec<GateLine>, flows: Vec<FlowLine>) -> Result<
 }
 
 // The contents of the lines.
+#[tactic(auto, unfolding(crate::specs::Reading::read_lines))]
 fn read_lines(text: &[u8], lines: Vec<GateLine>, flows: Vec<FlowLine>) -> Result<Parsed, PlanFault>
     requires no_line { lines.items ≡ [] }
     requires line_room { most_lines ≤ vec_capacity lines }

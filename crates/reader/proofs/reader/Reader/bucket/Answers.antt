@@ -4,18 +4,6 @@ use Rattle.reader.specs.Fields.{bucket_in}
 use Rattle.reader.proofs.Checked.{rate_high}
 use Rattle.reader.proofs.reader.Reader.bucket.Goals as goal
 
-pub returns-in_err-burst : goal.returns-in_err-burst
-unfolding bucket_in
-returns-in_err-burst c = search rules
-
-pub returns-in_err-num : goal.returns-in_err-num
-unfolding bucket_in
-returns-in_err-num c = search rules
-
-pub returns-in_err-den : goal.returns-in_err-den
-unfolding bucket_in
-returns-in_err-den c = search rules
-
 pub returns-in-Ok : goal.returns-in-Ok
 unfolding bucket_in
 returns-in-Ok c =

@@ -12,14 +12,6 @@ largest_is c =
     let at = largest_at c.args.classes.now c.in_ok-class.class c.index-classes-class.result (search rules) c.index-classes-class.is in
     search rules
 
-pub returns-in_err-rest : goal.returns-in_err-rest
-unfolding flow_line
-returns-in_err-rest c = search rules
-
-pub returns-in_err-class : goal.returns-in_err-class
-unfolding flow_line
-returns-in_err-class c = search rules
-
 pub returns-then-not-admits : goal.returns-then-not-admits
 unfolding flow_line
 returns-then-not-admits c = let big = largest_is (goal.at.returns-then-not-admits c).After-largest-largest in search rules

@@ -4,10 +4,6 @@ use Rattle.reader.specs.Reading.{gates_listed}
 use Rattle.reader.proofs.Steps.{listed_is, listed_cycle, made_any}
 use Rattle.reader.proofs.reader.Reader.gate_list.Goals as goal
 
-pub returns-in_err-lines : goal.returns-in_err-lines
-unfolding gates_listed
-returns-in_err-lines c = search rules
-
 pub returns : goal.returns
 unfolding gates_listed
 returns c =

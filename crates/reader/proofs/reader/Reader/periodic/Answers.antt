@@ -5,14 +5,6 @@ use Rattle.reader.specs.Fields.{ranged, number_field, periodic_in}
 use Rattle.reader.proofs.Checked.{in_range, jitter_high}
 use Rattle.reader.proofs.reader.Reader.periodic.Goals as goal
 
-pub returns-in_err-bytes : goal.returns-in_err-bytes
-unfolding periodic_in
-returns-in_err-bytes c = search rules
-
-pub returns-in_err-period : goal.returns-in_err-period
-unfolding periodic_in
-returns-in_err-period c = search rules
-
 pub returns-in_err-jitter : goal.returns-in_err-jitter
 unfolding periodic_in number_field
 returns-in_err-jitter c = search rules
