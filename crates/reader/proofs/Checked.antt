@@ -1,7 +1,7 @@
 -- The checks of lines and fields, by their outcomes.
-use Rattle.std.proofs.Common.{◌≡◌, ℕ, zero, suc, ◌+◌, ◌-◌, ◌<◌, ◌≤◌, false, leb, List, [], ◌∷◌, map, length, get_or, drop, set, Some, None, Ok, Err, Option, sym, refl, ap, ◌∙◌, ⊎_elim, arith, MatchOption}
+use Rattle.std.proofs.Common.{◌≡◌, ℕ, zero, suc, ◌+◌, ◌-◌, ◌<◌, ◌≤◌, false, leb, List, [], ◌∷◌, map, length, get_or, drop, set, Some, None, Ok, Err, Option, sym, ap, ◌∙◌, ⊎_elim, arith, MatchOption}
 use Rattle.std.specs.Option.{ok_or}
-use Rattle.std.proofs.lemmas.List.{at_drop_more, at_drop_all}
+use Rattle.std.proofs.lemmas.List.{at_drop_more, at_drop_all, drop-set}
 use Rattle.std.proofs.lemmas.Bool.{cases_lt, eq-eqb, ne_eqb, le-leb, lt-leb, and_from, and_left, and_right, cond-true, cond-false}
 use Rattle.units.specs.Limits.{least_frame, most_frame, most_depth, least_burst, most_burst, most_rate_ticks, most_period, most_jitter}
 use Rattle.envelope.specs.Ranges.{BucketRange, PeriodicRange}
@@ -36,18 +36,12 @@ module _ (k least most n : ℕ) where
   pub above_range : most < n → Err (Range k) ≡ ranged k least most n
   above_range h = sym (cond-false _ _ _ (and_right _ _ (lt-leb n most h)))
 
--- a place is written in front of those behind it
-pub drop_set : {X : Type 0} (xs : List X) (i : ℕ) (x : X) → i < length xs → drop i (set xs i x) ≡ x ∷ drop (suc i) xs
-drop_set [] i x h = absurd (omega arith)
-drop_set (y ∷ ys) zero x h = refl
-drop_set (y ∷ ys) (suc i) x h = drop_set ys i x (omega arith)
-
 -- one place more, where i places from the end are written
 pub put_front : {X : Type 0} (xs : List X) (i : ℕ) (x : X) → length xs ≡ 8 → i < 8 → drop (8 - (i + 1)) (set xs (7 - i) x) ≡ x ∷ drop (8 - i) xs
 put_front xs i x eight h =
     let a : 8 - (i + 1) ≡ 7 - i = omega arith in
-    let b : suc (7 - i) ≡ 8 - i = omega arith in
-    ap (λ j. drop j (set xs (7 - i) x)) a ∙ drop_set xs (7 - i) x (omega arith) ∙ ap (λ j. x ∷ drop j xs) b
+    let b : 7 - i + 1 ≡ 8 - i = omega arith in
+    ap (λ j. drop j (set xs (7 - i) x)) a ∙ drop-set xs (7 - i) x (omega arith) ∙ ap (λ j. x ∷ drop j xs) b
 
 -- one letter more: i letters are read, and the gates from 8 - i on are theirs
 module _ (gs : List Gate) (xs : List ℕ) (i : ℕ) (eight : length gs ≡ 8) (h : i < length xs) (l : i < 8) where

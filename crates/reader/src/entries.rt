@@ -1,9 +1,8 @@
 // The lines of a plan: a number, a gate line, a class, a flow.
-ghost use Rattle.std.specs.Prelude.{◌≡◌, ◌+◌, ◌<◌, ◌≤◌, ◌&&◌, ◌||◌, map, IfOk, nat_le, nat_lt};
-ghost use Rattle.text.specs.Marks.{line_end};
-ghost use Rattle.text.specs.Cuts.{past};
+ghost use Rattle.std.specs.Prelude.{◌≡◌, ◌<◌, ◌≤◌, ◌&&◌, ◌||◌, map, IfOk, nat_le, nat_lt};
 ghost use Rattle.reader.specs.Chain.{map_ok};
 ghost use Rattle.reader.specs.Entries.{number_line, gate_line, class_line, flow_line, kind_after};
+ghost use Rattle.reader.specs.Moves.{PastLine};
 ghost use Rattle.reader.specs.Views.{sizes_of, entry_of, LengthFits};
 
 use crate::parsed::{FlowLine, Kind, Place};
@@ -20,8 +19,7 @@ impl Reader<'_> {
         requires { self.old.line < 1000 }
         ensures value { result ≡ number_line self.old.line due least most self.old.rest.now }
         ensures bound { IfOk result (λ n. (least ≤ n) × (n ≤ most)) }
-        ensures rest { self.new.rest.now ≡ past line_end self.old.rest.now }
-        ensures line { self.new.line ≡ self.old.line + 1 }
+        ensures past { PastLine self.old self.new }
     {
         let line = self.line;
         let rest = self.due_line(due, 0)?;
@@ -34,8 +32,7 @@ impl Reader<'_> {
         requires { self.old.line < 1000 }
         ensures value { result ≡ gate_line self.old.line self.old.rest.now }
         ensures bound { IfOk result LengthFits }
-        ensures rest { self.new.rest.now ≡ past line_end self.old.rest.now }
-        ensures line { self.new.line ≡ self.old.line + 1 }
+        ensures past { PastLine self.old self.new }
     {
         let line = self.line;
         let rest = self.due_line(Key::Gate, 1)?;
@@ -48,8 +45,7 @@ impl Reader<'_> {
     pub(crate) fn class_line(&mut self, due: u8) -> Result<TrafficClass, PlanFault>
         requires { self.old.line < 1000 }
         ensures value { map_ok sizes_of result ≡ class_line self.old.line due self.old.rest.now }
-        ensures rest { self.new.rest.now ≡ past line_end self.old.rest.now }
-        ensures line { self.new.line ≡ self.old.line + 1 }
+        ensures past { PastLine self.old self.new }
     {
         let line = self.line;
         let rest = self.due_line(Key::Class, 2)?;
@@ -70,8 +66,7 @@ impl Reader<'_> {
     ) -> Result<FlowLine, PlanFault>
         requires { self.old.line < 1000 }
         ensures value { map_ok entry_of result ≡ flow_line self.old.line (map sizes_of classes.now) last self.old.rest.now }
-        ensures rest { self.new.rest.now ≡ past line_end self.old.rest.now }
-        ensures line { self.new.line ≡ self.old.line + 1 }
+        ensures past { PastLine self.old self.new }
     {
         let line = self.line;
         let rest = self.due_line(Key::Flow, 4)?;
@@ -102,6 +97,6 @@ impl Place {
     fn precedes(self, class: u8, kind: Kind) -> bool
         ensures { result ≡ (nat_lt class self.class || kind_after self.kind kind) }
     {
-        class < self.class || !matches!((self.kind, kind), (Kind::Periodic, Kind::Bucket))
+        class < self.class || self.kind <= kind
     }
 }

@@ -2,9 +2,10 @@
 ghost use Rattle.std.specs.Prelude.{◌≡◌, ◌≤◌, IfOk};
 ghost use Rattle.units.specs.Limits.{least_frame, most_frame};
 ghost use Rattle.text.specs.Marks.{comma};
-ghost use Rattle.text.specs.Cuts.{before, past};
+ghost use Rattle.text.specs.Cuts.{before};
 ghost use Rattle.reader.specs.Chain.{map_ok};
 ghost use Rattle.reader.specs.Fields.{numeral_field, number_field, largest_field, gates_in, kind_in, gate_in, sizes_in, bucket_in, periodic_in, flow_in};
+ghost use Rattle.reader.specs.Moves.{Past};
 ghost use Rattle.reader.specs.Views.{sizes_of, flow_of, LengthFits};
 
 use crate::parsed::{Flow, Kind};
@@ -22,8 +23,7 @@ impl Reader<'_> {
     // The number in the next field.
     pub(crate) fn numeral(&mut self) -> Result<u64, FieldFault>
         ensures value { result ≡ numeral_field self.old.line (before comma self.old.rest.now) }
-        ensures rest { self.new.rest.now ≡ past comma self.old.rest.now }
-        ensures line { self.new.line ≡ self.old.line }
+        ensures past { Past comma self.old self.new }
     {
         let field = self.piece(b',');
         numeral(field).ok_or(FieldFault::Form(self.line))
@@ -34,8 +34,7 @@ impl Reader<'_> {
     pub(crate) fn number(&mut self, least: u64, most: u64) -> Result<u64, FieldFault>
         ensures value { result ≡ number_field self.old.line least most (before comma self.old.rest.now) }
         ensures bound { IfOk result (λ n. (least ≤ n) × (n ≤ most)) }
-        ensures rest { self.new.rest.now ≡ past comma self.old.rest.now }
-        ensures line { self.new.line ≡ self.old.line }
+        ensures past { Past comma self.old self.new }
     {
         let n = self.numeral()?;
         if n < least || n > most {
@@ -48,8 +47,7 @@ impl Reader<'_> {
     pub(crate) fn class(&mut self) -> Result<u8, FieldFault>
         ensures value { result ≡ number_field self.old.line 0 7 (before comma self.old.rest.now) }
         ensures bound { IfOk result (λ c. c ≤ 7) }
-        ensures rest { self.new.rest.now ≡ past comma self.old.rest.now }
-        ensures line { self.new.line ≡ self.old.line }
+        ensures past { Past comma self.old self.new }
     {
         Ok(self.number(0, 7)? as u8)
     }
@@ -57,8 +55,7 @@ impl Reader<'_> {
     // The kind of flow that the letter in the next field picks.
     pub(crate) fn kind(&mut self) -> Result<Kind, FieldFault>
         ensures value { result ≡ kind_in self.old.line (before comma self.old.rest.now) }
-        ensures rest { self.new.rest.now ≡ past comma self.old.rest.now }
-        ensures line { self.new.line ≡ self.old.line }
+        ensures past { Past comma self.old self.new }
     {
         let [letter] = self.piece(b',') else {
             return Err(FieldFault::Form(self.line));
@@ -86,8 +83,7 @@ impl Reader<'_> {
     fn largest(&mut self) -> Result<u64, FieldFault>
         ensures value { result ≡ largest_field self.old.line (before comma self.old.rest.now) }
         ensures bound { IfOk result (λ n. (n ≤ most_frame) × (1 ≤ n → least_frame ≤ n)) }
-        ensures rest { self.new.rest.now ≡ past comma self.old.rest.now }
-        ensures line { self.new.line ≡ self.old.line }
+        ensures past { Past comma self.old self.new }
     {
         let n = self.number(0, MAX_FRAME)?;
         if n > 0 && n < MIN_FRAME {

@@ -6,6 +6,7 @@ mod fields;
 mod lists;
 mod parsed;
 mod reader;
+mod room;
 mod whole;
 
 pub use parsed::{Flow, FlowLine, Parsed};

@@ -1,9 +1,9 @@
 // The reader goes forward over the caller's own text, and hands out lines and fields of it.
-ghost use Rattle.std.specs.Prelude.{◌≡◌, ◌+◌, ◌<◌};
-ghost use Rattle.text.specs.Marks.{line_end};
-ghost use Rattle.text.specs.Cuts.{before, past};
+ghost use Rattle.std.specs.Prelude.{◌≡◌, ◌<◌};
+ghost use Rattle.text.specs.Cuts.{before};
 ghost use Rattle.text.specs.Keys.{content};
 ghost use Rattle.reader.specs.Entries.{line_at, due_line};
+ghost use Rattle.reader.specs.Moves.{Past, PastLine};
 
 use faults::{FieldFault, LineFault};
 use text::{Key, count, cut, value};
@@ -19,8 +19,7 @@ impl<'a> Reader<'a> {
     // What stands before the next `byte`, or all that is left. The reader goes on past it.
     pub(crate) fn piece(&mut self, byte: u8) -> &'a [u8]
         ensures value { result.now ≡ before byte self.old.rest.now }
-        ensures rest { self.new.rest.now ≡ past byte self.old.rest.now }
-        ensures line { self.new.line ≡ self.old.line }
+        ensures past { Past byte self.old self.new }
     {
         let (piece, rest) = cut(self.rest, byte);
         self.rest = rest;
@@ -31,8 +30,7 @@ impl<'a> Reader<'a> {
     pub(crate) fn next_line(&mut self) -> Result<&'a [u8], LineFault>
         requires { self.old.line < 1000 }
         ensures value { content result ≡ line_at self.old.line self.old.rest.now }
-        ensures rest { self.new.rest.now ≡ past line_end self.old.rest.now }
-        ensures line { self.new.line ≡ self.old.line + 1 }
+        ensures past { PastLine self.old self.new }
     {
         let number = self.line;
         self.line = number + 1;
@@ -50,8 +48,7 @@ impl<'a> Reader<'a> {
     pub(crate) fn due_line(&mut self, due: Key, commas: usize) -> Result<&'a [u8], LineFault>
         requires { self.old.line < 1000 }
         ensures value { content result ≡ due_line self.old.line due commas self.old.rest.now }
-        ensures rest { self.new.rest.now ≡ past line_end self.old.rest.now }
-        ensures line { self.new.line ≡ self.old.line + 1 }
+        ensures past { PastLine self.old self.new }
     {
         let number = self.line;
         let line = self.next_line()?;
