@@ -1,9 +1,10 @@
 -- What the lists of flows by class say. Assumes nothing.
-use Rattle.std.specs.Prelude.{ℕ, ◌-◌, List, [], ◌∷◌, ◌++◌, map, vec_items}
+use Rattle.std.specs.Prelude.{ℕ, ◌≡◌, ◌-◌, List, [], ◌∷◌, ◌++◌, map, vec_items}
 use Rattle.envelope.specs.declared.bucket.Bucket.{Bucket}
 use Rattle.envelope.specs.declared.periodic.Periodic.{Periodic}
 use Rattle.reader.specs.Contents.{FlowEntry}
 use Rattle.reader.specs.Views.{bucket_of, periodic_of}
+use Rattle.plan.specs.Arranged.{flows_of, bucket_kind, periodic_kind}
 use Rattle.plan.specs.declared.class_flows.ClassFlows.{ClassFlows}
 
 -- a bucket as a flow of the class c
@@ -30,3 +31,8 @@ entries_in c f = bucket_entries c (vec_items f.buckets) ++ periodic_entries c (v
 abbrev pub entries_down : ℕ → List ClassFlows → List FlowEntry
 entries_down c [] = []
 entries_down c (f ∷ fs) = entries_in c f ++ entries_down (c - 1) fs
+
+-- the buckets and periodic flows of the class c among some flows, each in the order in which they stand
+pub record Held (c : ℕ) (bs : List Bucket) (ps : List Periodic) (fs : List FlowEntry) : Type 0 where
+  pub buckets : bucket_entries c bs ≡ flows_of c bucket_kind fs
+  pub periodics : periodic_entries c ps ≡ flows_of c periodic_kind fs

@@ -1,8 +1,8 @@
 // The flows of a class by kind, each in the order of the plan text.
-ghost use Rattle.std.specs.Prelude.{◌≡◌, ◌-◌, map, IfOk, vec_len};
+ghost use Rattle.std.specs.Prelude.{◌≡◌, map, IfOk, vec_len};
 ghost use Rattle.reader.specs.Views.{entry_of};
-ghost use Rattle.plan.specs.Arranged.{flows_of, bucket_kind, periodic_kind, groups};
-ghost use Rattle.plan.specs.ByClass.{bucket_entries, periodic_entries, entries_down};
+ghost use Rattle.plan.specs.Arranged.{groups};
+ghost use Rattle.plan.specs.ByClass.{Held, entries_down};
 
 use envelope::{Bucket, Periodic};
 use reader::{Flow, FlowLine};
@@ -19,8 +19,8 @@ pub(crate) fn arrange(heap: Global, flows: &[FlowLine]) -> Result<Vec<ClassFlows
     ensures { IfOk result (λ v. (vec_len v ≡ 8) × (entries_down 7 v.items ≡ groups 8 (map entry_of flows.now))) }
 {
     let mut classes = Vec::new(heap);
-    for i in 0..8u8 {
-        let of_class = class_flows(heap, flows, 7 - i)?;
+    for class in (0..8u8).rev() {
+        let of_class = class_flows(heap, flows, class)?;
         classes.push(of_class)?;
     }
     Ok(classes)
@@ -28,8 +28,7 @@ pub(crate) fn arrange(heap: Global, flows: &[FlowLine]) -> Result<Vec<ClassFlows
 
 // The flows of one class.
 fn class_flows(heap: Global, flows: &[FlowLine], class: u8) -> Result<ClassFlows, AllocError>
-    ensures buckets { IfOk result (λ f. bucket_entries class f.buckets.items ≡ flows_of class bucket_kind (map entry_of flows.now)) }
-    ensures periodics { IfOk result (λ f. periodic_entries class f.periodics.items ≡ flows_of class periodic_kind (map entry_of flows.now)) }
+    ensures { IfOk result (λ f. Held class f.buckets.items f.periodics.items (map entry_of flows.now)) }
 {
     let mut buckets = Vec::new(heap);
     let mut periodics = Vec::new(heap);

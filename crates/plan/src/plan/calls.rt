@@ -1,24 +1,24 @@
 // Making a plan, reading one, and what it tells.
-ghost use Rattle.std.specs.Prelude.{◌≡◌, ◌<◌, ◌≤◌, ◌⊎◌, map, IfOk, Ok, Err, MatchResult, OnOk, slice_index_or};
-ghost use Rattle.units.specs.declared.refusal.Refusal.TheVariants.{NoClass};
+ghost use Rattle.std.specs.Prelude.{◌≡◌, ◌⊎◌, IfOk, Ok, Err, MatchResult, OnOk};
+ghost use Rattle.units.specs.Classes.{ByClass};
 ghost use Rattle.faults.specs.declared.fault.PlanFault.TheVariants.{Memory};
 ghost use Rattle.reader.specs.Parsed.{contents_of};
 ghost use Rattle.reader.specs.Reading.{read_plan};
 ghost use Rattle.reader.specs.Contents.{Contents};
 ghost use Rattle.reader.specs.Views.{sizes_of};
 ghost use Rattle.writing.specs.Inverse.{TextOf};
-ghost use Rattle.plan.specs.Arranged.{flows_of, bucket_kind, periodic_kind, class_of, silent, shut_contents, arranged};
-ghost use Rattle.plan.specs.ByClass.{bucket_entries, periodic_entries};
+ghost use Rattle.plan.specs.Arranged.{flows_of, bucket_kind, periodic_kind, class_of, shut_contents, arranged};
+ghost use Rattle.plan.specs.ByClass.{bucket_entries, periodic_entries, Held};
 ghost use Rattle.plan.specs.PlanContents.{contents};
 
-use crate::class_flows::arrange;
+use crate::class_flows::{ClassFlows, arrange};
 use crate::plan::Plan;
 use envelope::{Bucket, Periodic};
 use faults::PlanFault;
 use gates::{GateList, TrafficClass};
 use reader::{Parsed, parse};
 use std::alloc::{AllocError, Global};
-use units::Refusal;
+use units::{Class, Refusal};
 
 impl Plan {
     // The shut plan: port 1, a cycle of one tick with every class shut, no class that sends, and no flow. Fails only for want of memory.
@@ -78,38 +78,30 @@ impl Plan {
 
     // The sizes of a class. Refused where there is no such class.
     pub fn class(&self, class: u8) -> Result<TrafficClass, Refusal>
-        ensures { MatchResult result (λ t. (class ≤ 7) × (sizes_of t ≡ class_of (contents self.now) class)) (λ e. (7 < class) × (e ≡ NoClass)) }
+        ensures { ByClass class result (λ t. sizes_of t ≡ class_of (contents self.now) class) }
     {
-        sizes_of(&self.classes, class)
+        let class = Class::try_from(class)?;
+        Ok(self.classes[usize::from(class)])
     }
 
     // The buckets of a class, in the order of the plan text. Refused where there is no such class.
     pub fn buckets(&self, class: u8) -> Result<&[Bucket], Refusal>
-        ensures { MatchResult result (λ s. (class ≤ 7) × (bucket_entries class s.now ≡ flows_of class bucket_kind (contents self.now).flows)) (λ e. (7 < class) × (e ≡ NoClass)) }
+        ensures { ByClass class result (λ s. bucket_entries class s.now ≡ flows_of class bucket_kind (contents self.now).flows) }
     {
-        if class > 7 {
-            return Err(Refusal::NoClass);
-        }
-        Ok(self.flows[7 - class as usize].buckets.as_slice())
+        Ok(self.of_class(class)?.buckets.as_slice())
     }
 
     // The periodic flows of a class, in the order of the plan text. Refused where there is no such class.
     pub fn periodics(&self, class: u8) -> Result<&[Periodic], Refusal>
-        ensures { MatchResult result (λ s. (class ≤ 7) × (periodic_entries class s.now ≡ flows_of class periodic_kind (contents self.now).flows)) (λ e. (7 < class) × (e ≡ NoClass)) }
+        ensures { ByClass class result (λ s. periodic_entries class s.now ≡ flows_of class periodic_kind (contents self.now).flows) }
     {
-        if class > 7 {
-            return Err(Refusal::NoClass);
-        }
-        Ok(self.flows[7 - class as usize].periodics.as_slice())
+        Ok(self.of_class(class)?.periodics.as_slice())
     }
-}
-
-// The sizes of a class among those of all eight.
-fn sizes_of(classes: &[TrafficClass; 8], class: u8) -> Result<TrafficClass, Refusal>
-    ensures { MatchResult result (λ t. (class ≤ 7) × (sizes_of t ≡ slice_index_or (map sizes_of classes.now) class silent)) (λ e. (7 < class) × (e ≡ NoClass)) }
-{
-    if class > 7 {
-        return Err(Refusal::NoClass);
+    // The flows of a class, by kind. Refused where there is no such class.
+    fn of_class(&self, class: u8) -> Result<&ClassFlows, Refusal>
+        ensures { ByClass class result (λ f. Held class f.now.buckets.items f.now.periodics.items (contents self.now).flows) }
+    {
+        let class = Class::try_from(class)?;
+        Ok(&self.flows[7 - usize::from(class)])
     }
-    Ok(classes[class as usize])
 }

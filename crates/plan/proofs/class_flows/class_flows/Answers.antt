@@ -30,6 +30,6 @@ pub returns : goal.returns
 returns c =
     let all = take_all c.loop-line.line-index c.args.flows.now c.loop-line-test.false in
     record {
-      buckets = c.loop-line.invariant.0 ∙ ap (λ ls. flows_of c.args.class bucket_kind (map entry_of ls)) all;
-      periodics = c.loop-line.invariant.1 ∙ ap (λ ls. flows_of c.args.class periodic_kind (map entry_of ls)) all;
+      buckets = c.loop-line.invariant.buckets ∙ ap (λ ls. flows_of c.args.class bucket_kind (map entry_of ls)) all;
+      periodics = c.loop-line.invariant.periodics ∙ ap (λ ls. flows_of c.args.class periodic_kind (map entry_of ls)) all;
     }
