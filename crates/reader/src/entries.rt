@@ -21,9 +21,7 @@ impl Reader<'_> {
         ensures bound { IfOk result (λ n. (least ≤ n) × (n ≤ most)) }
         ensures past { PastLine self.old self.new }
     {
-        let line = self.line;
-        let rest = self.due_line(due, 0)?;
-        let mut fields = Reader { rest, line };
+        let mut fields = self.due_line(due, 0)?;
         Ok(fields.number(least, most)?)
     }
 
@@ -34,9 +32,7 @@ impl Reader<'_> {
         ensures bound { IfOk result LengthFits }
         ensures past { PastLine self.old self.new }
     {
-        let line = self.line;
-        let rest = self.due_line(Key::Gate, 1)?;
-        let mut fields = Reader { rest, line };
+        let mut fields = self.due_line(Key::Gate, 1)?;
         Ok(fields.gate()?)
     }
 
@@ -47,12 +43,10 @@ impl Reader<'_> {
         ensures value { map_ok sizes_of result ≡ class_line self.old.line due self.old.rest.now }
         ensures past { PastLine self.old self.new }
     {
-        let line = self.line;
-        let rest = self.due_line(Key::Class, 2)?;
-        let mut fields = Reader { rest, line };
+        let mut fields = self.due_line(Key::Class, 2)?;
         let class = fields.class()?;
         if class != due {
-            return Err(PlanFault::Order(line));
+            return Err(PlanFault::Order(fields.line));
         }
         Ok(fields.sizes()?)
     }
@@ -68,17 +62,15 @@ impl Reader<'_> {
         ensures value { map_ok entry_of result ≡ flow_line self.old.line (map sizes_of classes.now) last self.old.rest.now }
         ensures past { PastLine self.old self.new }
     {
-        let line = self.line;
-        let rest = self.due_line(Key::Flow, 4)?;
-        let mut fields = Reader { rest, line };
+        let mut fields = self.due_line(Key::Flow, 4)?;
         let class = fields.class()?;
         let largest = classes[class as usize].largest();
         if !last.admits(class, largest) {
-            return Err(PlanFault::Order(line));
+            return Err(PlanFault::Order(fields.line));
         }
         let kind = fields.kind()?;
         if !last.precedes(class, kind) {
-            return Err(PlanFault::Order(line));
+            return Err(PlanFault::Order(fields.line));
         }
         let flow = fields.flow(kind, largest)?;
         Ok(FlowLine { class, flow })

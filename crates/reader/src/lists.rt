@@ -1,15 +1,15 @@
 // The lists of a plan: the lines one after another.
 ghost use Rattle.std.specs.Prelude.{◌≡◌, ◌<◌, ◌≤◌, [], map, IfOk, vec_items, vec_len, OnOk};
 ghost use Rattle.std.specs.List.{AllByRecursion};
-ghost use Rattle.units.specs.Limits.{most_port, most_lines, most_cycle, most_flows};
+ghost use Rattle.units.specs.Limits.{most_lines, most_flows};
 ghost use Rattle.reader.specs.Chain.{map_ok, each};
 ghost use Rattle.reader.specs.Entries.{next_gate, next_flow};
 ghost use Rattle.reader.specs.Moves.{PastLines};
-ghost use Rattle.reader.specs.Parsed.{lines_of, entries_of};
+ghost use Rattle.reader.specs.Parsed.{header_of, lines_of, entries_of};
 ghost use Rattle.reader.specs.Reading.{header_in, gates_listed, classes_listed, flows_listed};
 ghost use Rattle.reader.specs.Views.{sizes_of, LengthFits};
 
-use crate::parsed::{FlowLine, Kind, Place};
+use crate::parsed::{FlowLine, Header, Kind, Place};
 use crate::reader::Reader;
 use crate::room::Room;
 use faults::{LineFault, PlanFault};
@@ -18,20 +18,11 @@ use text::Key;
 use units::Ticks;
 use units::limits::{MAX_CYCLE, MAX_FLOWS, MAX_GATE_LINES, MAX_PORT};
 
-// What the first three lines say.
-#[derive(Clone, Copy)]
-pub struct Header {
-    pub port: u64,
-    pub cycle: u64,
-    pub gates: u64,
-}
-
 impl Reader<'_> {
     #[tactic(auto, unfolding(crate::specs::Reading::header_in))]
     pub(crate) fn header(&mut self) -> Result<Header, LineFault>
         requires { self.old.line ≡ 1 }
-        ensures value { result ≡ header_in self.old.rest.now }
-        ensures bound { IfOk result (λ h. (h.port ≤ most_port) × (1 ≤ h.cycle) × (h.cycle ≤ most_cycle) × (1 ≤ h.gates) × (h.gates ≤ most_lines)) }
+        ensures value { map_ok header_of result ≡ header_in self.old.rest.now }
         ensures past { OnOk result (PastLines 3 self.old self.new) }
     {
         let port = self.number_line(Key::Port, 1, MAX_PORT)?;
@@ -47,10 +38,7 @@ impl Reader<'_> {
         header: Header,
         room: Room<GateLine, MAX_GATE_LINES>,
     ) -> Result<GateList, PlanFault>
-        requires line { self.old.line ≡ 4 }
-        requires some { 1 ≤ header.gates }
-        requires few { header.gates ≤ most_lines }
-        requires most { header.cycle ≤ most_cycle }
+        requires { self.old.line ≡ 4 }
         ensures value { map_ok lines_of result ≡ gates_listed header.cycle header.gates self.old.rest.now }
         ensures cycle { IfOk result (λ g. g.cycle.0 ≡ header.cycle) }
         ensures past { OnOk result (PastLines header.gates self.old self.new) }

@@ -1,9 +1,22 @@
 // What an accepted plan text says.
-ghost use Rattle.std.specs.Prelude.{◌≡◌};
+ghost use Rattle.std.specs.Prelude.{◌≡◌, ◌≤◌};
+ghost use Rattle.units.specs.Limits.{most_port, most_lines, most_cycle};
 ghost use Rattle.reader.specs.Views.{flow_of, kind_of, place_of};
 
 use envelope::{Bucket, Periodic};
 use gates::{GateList, TrafficClass};
+
+// What the first three lines say.
+#[derive(Clone, Copy)]
+pub struct Header {
+    pub port: u64,
+    pub cycle: u64,
+    pub gates: u64,
+    ghost port_high: { port ≤ most_port },
+    ghost cycle_high: { cycle ≤ most_cycle },
+    ghost gates_low: { 1 ≤ gates },
+    ghost gates_high: { gates ≤ most_lines },
+}
 
 // The kinds of flow, in their order within a class.
 #[derive(Clone, Copy, PartialEq, Eq, PartialOrd, Ord)]

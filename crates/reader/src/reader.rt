@@ -1,7 +1,8 @@
 // The reader goes forward over the caller's own text, and hands out lines and fields of it.
-ghost use Rattle.std.specs.Prelude.{◌≡◌, ◌<◌};
+ghost use Rattle.std.specs.Prelude.{◌≡◌, ◌<◌, IfOk};
 ghost use Rattle.text.specs.Cuts.{before};
 ghost use Rattle.text.specs.Keys.{content};
+ghost use Rattle.reader.specs.Chain.{map_ok};
 ghost use Rattle.reader.specs.Entries.{line_at, due_line};
 ghost use Rattle.reader.specs.Moves.{Past, PastLine};
 
@@ -26,7 +27,8 @@ impl<'a> Reader<'a> {
         piece
     }
 
-    // The next line, without its byte 10. No plan has as many as a thousand lines.
+    // The next line, without its byte 10. No plan has as many as a thousand lines. The callers bound the number of the line, each by the
+    // lines before its own: a bound in the type would have to fall with each line.
     pub(crate) fn next_line(&mut self) -> Result<&'a [u8], LineFault>
         requires { self.old.line < 1000 }
         ensures value { content result ≡ line_at self.old.line self.old.rest.now }
@@ -45,9 +47,10 @@ impl<'a> Reader<'a> {
 
     // The fields of the next line, which has to have the due key and so many commas between its fields.
     #[tactic(auto, unfolding(crate::specs::Entries::due_line))]
-    pub(crate) fn due_line(&mut self, due: Key, commas: usize) -> Result<&'a [u8], LineFault>
+    pub(crate) fn due_line(&mut self, due: Key, commas: usize) -> Result<Reader<'a>, LineFault>
         requires { self.old.line < 1000 }
-        ensures value { content result ≡ due_line self.old.line due commas self.old.rest.now }
+        ensures value { map_ok (λ r. r.rest.now) result ≡ due_line self.old.line due commas self.old.rest.now }
+        ensures place { IfOk result (λ r. r.line ≡ self.old.line) }
         ensures past { PastLine self.old self.new }
     {
         let number = self.line;
@@ -56,6 +59,9 @@ impl<'a> Reader<'a> {
         if count(fields, b',') != commas {
             return Err(LineFault::Field(FieldFault::Form(number)));
         }
-        Ok(fields)
+        Ok(Reader {
+            rest: fields,
+            line: number,
+        })
     }
 }
