@@ -1,5 +1,5 @@
 -- The checks of lines and fields, by their outcomes.
-use Rattle.std.proofs.Common.{◌≡◌, ℕ, zero, suc, ◌+◌, ◌-◌, ◌<◌, ◌≤◌, false, leb, List, [], ◌∷◌, map, length, get_or, drop, set, Some, None, Ok, Err, Option, sym, ap, ◌∙◌, ⊎_elim, arith, MatchOption}
+use Rattle.std.proofs.Common.{◌≡◌, ℕ, ◌+◌, ◌-◌, ◌<◌, ◌≤◌, false, leb, List, [], ◌∷◌, length, get_or, drop, set, Some, None, Ok, Err, Option, sym, ap, ◌∙◌, ⊎_elim, arith, MatchOption}
 use Rattle.std.specs.Option.{ok_or}
 use Rattle.std.proofs.lemmas.List.{at_drop_more, at_drop_all, drop-set}
 use Rattle.std.proofs.lemmas.Bool.{cases_lt, eq-eqb, ne_eqb, le-leb, lt-leb, and_from, and_left, and_right, cond-true, cond-false}
@@ -13,7 +13,7 @@ use Rattle.gates.specs.Sizes.{Sized}
 use Rattle.text.specs.Cuts.{before}
 use Rattle.text.proofs.Cutting.{shorter}
 use Rattle.reader.specs.Chain.{and_then, map_ok}
-use Rattle.reader.specs.Contents.{ClassEntry, largest_of}
+use Rattle.reader.specs.Contents.{ClassEntry}
 use Rattle.reader.specs.Views.{sizes_of}
 use Rattle.reader.specs.Entries.{line_at}
 use Rattle.reader.specs.Fields.{ranged, room_most, letters_from, gates_in}
@@ -145,9 +145,3 @@ sized_is k m d (Some t) most least is =
     let b : t.depth.0 ≡ d = ap (λ b. b.0) is.1 in
     let s : Sized m d = record { most = most; least = least; room = omega (arith, t.room); deep = omega (arith, t.deep); silent = λ z. omega (arith, t.silent (omega arith)) } in
     (λ i. Ok (sizes_with (a i) (b i))) ∙ ap (λ r. and_then r (λ n. Ok (sizes_with m n))) (in_range k m (room_most m) d s.room (room_in m d s))
-
--- the largest frame of a class that is read from the list of classes
-pub largest_at : (ts : List TrafficClass) (c : ℕ) (t : TrafficClass) → c < length ts → t ≡ get_or ts c t → t.largest.0 ≡ largest_of (map sizes_of ts) c
-largest_at [] c t h e = absurd (omega arith)
-largest_at (x ∷ ts) zero t h e = ap (λ y. y.largest.0) e
-largest_at (x ∷ ts) (suc c) t h e = largest_at ts c t (omega arith) e

@@ -1,6 +1,7 @@
 // The lines of a plan: a number, a gate line, a class, a flow.
 ghost use Rattle.std.specs.Prelude.{◌≡◌, ◌<◌, ◌≤◌, ◌&&◌, ◌||◌, map, IfOk, nat_le, nat_lt};
 ghost use Rattle.reader.specs.Chain.{map_ok};
+ghost use Rattle.reader.specs.Contents.{largest_of};
 ghost use Rattle.reader.specs.Entries.{number_line, gate_line, class_line, flow_line, kind_after};
 ghost use Rattle.reader.specs.Moves.{PastLine};
 ghost use Rattle.reader.specs.Views.{sizes_of, entry_of, LengthFits};
@@ -64,17 +65,25 @@ impl Reader<'_> {
     {
         let mut fields = self.due_line(Key::Flow, 4)?;
         let class = fields.class()?;
-        let largest = classes[class as usize].largest();
-        if !last.admits(class, largest) {
+        let traffic = traffic_of(classes, class);
+        if !last.admits(class, traffic.largest()) {
             return Err(PlanFault::Order(fields.line));
         }
         let kind = fields.kind()?;
         if !last.precedes(class, kind) {
             return Err(PlanFault::Order(fields.line));
         }
-        let flow = fields.flow(kind, largest)?;
+        let flow = fields.flow(kind, traffic)?;
         Ok(FlowLine { class, flow })
     }
+}
+
+// The sizes of a class.
+fn traffic_of(classes: &[TrafficClass; 8], class: u8) -> TrafficClass
+    requires { class ≤ 7 }
+    ensures { result.largest.0 ≡ largest_of (map sizes_of classes.now) class }
+{
+    classes[usize::from(class)]
 }
 
 impl Place {

@@ -43,7 +43,7 @@ impl Reader<'_> {
         Ok(n)
     }
 
-    // The class in the next field.
+    // The class in the next field. A plain number, since the field's range check has just made it 0 to 7: `Class` would check it again.
     pub(crate) fn class(&mut self) -> Result<u8, FieldFault>
         ensures value { result ≡ number_field self.old.line 0 7 (before comma self.old.rest.now) }
         ensures bound { IfOk result (λ c. c ≤ 7) }
@@ -52,7 +52,8 @@ impl Reader<'_> {
         Ok(self.number(0, 7)? as u8)
     }
 
-    // The kind of flow that the letter in the next field picks.
+    // The kind of flow that the letter in the next field picks. Letters are read in one place each, here and in `read_gates`: a conversion
+    // would need an error type of its own in place of the fault.
     pub(crate) fn kind(&mut self) -> Result<Kind, FieldFault>
         ensures value { result ≡ kind_in self.old.line (before comma self.old.rest.now) }
         ensures past { Past comma self.old self.new }
@@ -93,7 +94,7 @@ impl Reader<'_> {
     }
 
     // The sizes of a class: its largest frame and its depth.
-    #[tactic(auto, unfolding(crate::specs::Fields::sizes_in))]
+    #[tactic(auto, unfolding(crate::specs::Fields::sizes_in, crate::specs::Fields::number_field))]
     pub(crate) fn sizes(&mut self) -> Result<TrafficClass, FieldFault>
         ensures { map_ok sizes_of result ≡ sizes_in self.old.line self.old.rest.now }
     {
@@ -102,14 +103,13 @@ impl Reader<'_> {
         TrafficClass::new(Bytes(largest), Bytes(depth)).ok_or(FieldFault::Range(self.line))
     }
 
-    // The numbers of a flow of this kind, in a class with this largest frame.
-    pub(crate) fn flow(&mut self, kind: Kind, largest: Bytes) -> Result<Flow, FieldFault>
-        requires { largest.0 ≤ most_frame }
-        ensures { map_ok flow_of result ≡ flow_in self.old.line kind largest.0 self.old.rest.now }
+    // The numbers of a flow of this kind, in a class with these sizes.
+    pub(crate) fn flow(&mut self, kind: Kind, traffic: TrafficClass) -> Result<Flow, FieldFault>
+        ensures { map_ok flow_of result ≡ flow_in self.old.line kind traffic.largest.0 self.old.rest.now }
     {
         match kind {
             Kind::Bucket => self.bucket(),
-            Kind::Periodic => self.periodic(largest),
+            Kind::Periodic => self.periodic(traffic),
         }
     }
 
@@ -127,13 +127,12 @@ impl Reader<'_> {
         }
     }
 
-    // The numbers of a periodic flow, whose frames are no longer than `largest`.
-    #[tactic(auto, unfolding(crate::specs::Fields::periodic_in))]
-    fn periodic(&mut self, largest: Bytes) -> Result<Flow, FieldFault>
-        requires { largest.0 ≤ most_frame }
-        ensures { map_ok flow_of result ≡ periodic_in self.old.line largest.0 self.old.rest.now }
+    // The numbers of a periodic flow, whose frames are no longer than the largest of its class.
+    #[tactic(auto, unfolding(crate::specs::Fields::periodic_in, crate::specs::Fields::number_field))]
+    fn periodic(&mut self, traffic: TrafficClass) -> Result<Flow, FieldFault>
+        ensures { map_ok flow_of result ≡ periodic_in self.old.line traffic.largest.0 self.old.rest.now }
     {
-        let bytes = self.number(MIN_FRAME, largest.0)?;
+        let bytes = self.number(MIN_FRAME, traffic.largest().0)?;
         let period = self.number(1, MAX_PERIOD)?;
         let jitter = self.numeral()?;
         match Periodic::new(Bytes(bytes), Ticks(period), Ticks(jitter)) {

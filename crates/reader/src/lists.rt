@@ -19,7 +19,7 @@ use units::Ticks;
 use units::limits::{MAX_CYCLE, MAX_FLOWS, MAX_GATE_LINES, MAX_PORT};
 
 impl Reader<'_> {
-    #[tactic(auto, unfolding(crate::specs::Reading::header_in))]
+    #[tactic(auto, unfolding(crate::specs::Reading::header_in, crate::specs::Chain::skip))]
     pub(crate) fn header(&mut self) -> Result<Header, LineFault>
         requires { self.old.line ≡ 1 }
         ensures value { map_ok header_of result ≡ header_in self.old.rest.now }
@@ -99,7 +99,8 @@ impl Reader<'_> {
         Ok(flows)
     }
 
-    // The next `count` flow lines.
+    // The next `count` flow lines. Like `gate_lines` but for the place of the last flow, which each line is held against. One method over a
+    // closure for the next line would be no plainer: its contract would have to say what each call does to the reader and to that place.
     fn flow_lines(
         &mut self,
         classes: &[TrafficClass; 8],

@@ -29,6 +29,7 @@ impl<'a> Reader<'a> {
 
     // The next line, without its byte 10. No plan has as many as a thousand lines. The callers bound the number of the line, each by the
     // lines before its own: a bound in the type would have to fall with each line.
+    #[tactic(auto, using(crate::proofs::Checked::line_here))]
     pub(crate) fn next_line(&mut self) -> Result<&'a [u8], LineFault>
         requires { self.old.line < 1000 }
         ensures value { content result ≡ line_at self.old.line self.old.rest.now }

@@ -5,10 +5,6 @@ use Rattle.reader.specs.Fields.{ranged, number_field, periodic_in}
 use Rattle.reader.proofs.Checked.{in_range, jitter_high}
 use Rattle.reader.proofs.reader.Reader.periodic.Goals as goal
 
-pub returns-in_err-jitter : goal.returns-in_err-jitter
-unfolding periodic_in number_field
-returns-in_err-jitter c = search rules
-
 pub returns-in-Ok : goal.returns-in-Ok
 unfolding periodic_in number_field
 returns-in-Ok c =
@@ -23,5 +19,5 @@ returns-in-Err c =
     let bytes = c.in_ok-bytes.ensures.bound in
     let period = c.in_ok-period.ensures.bound in
     let high : Err (Range c.args.self.now.line) ≡ ranged c.args.self.now.line 0 most_jitter c.in_ok-jitter.jitter =
-    jitter_high _ c.in_ok-bytes.bytes c.in_ok-period.period _ bytes.0 (omega (arith, bytes.1, c.requires)) period.0 period.1 c.in-Err.ensures.1 in
+    jitter_high _ c.in_ok-bytes.bytes c.in_ok-period.period _ bytes.0 (omega (arith, bytes.1, ap (λ b. b.0) c.largest.ensures, c.args.traffic.most)) period.0 period.1 c.in-Err.ensures.1 in
     search rules

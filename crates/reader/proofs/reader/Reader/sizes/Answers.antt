@@ -3,10 +3,6 @@ use Rattle.reader.specs.Fields.{number_field, sizes_in}
 use Rattle.reader.proofs.Checked.{sized_is}
 use Rattle.reader.proofs.reader.Reader.sizes.Goals as goal
 
-pub returns-in_err-depth : goal.returns-in_err-depth
-unfolding sizes_in number_field
-returns-in_err-depth c = search rules
-
 pub returns : goal.returns
 unfolding sizes_in number_field
 returns c =
