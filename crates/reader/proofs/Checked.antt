@@ -10,17 +10,10 @@ use Rattle.gates.specs.declared.gate_line.Gate.{Gate}
 use Rattle.gates.specs.declared.gate_line.Gate.TheVariants.{Open, Shut}
 use Rattle.gates.specs.declared.traffic_class.TrafficClass.{TrafficClass}
 use Rattle.gates.specs.Sizes.{Sized}
-use Rattle.text.specs.Cuts.{before}
-use Rattle.text.proofs.Cutting.{shorter}
 use Rattle.reader.specs.Chain.{and_then, map_ok}
 use Rattle.reader.specs.Contents.{ClassEntry}
 use Rattle.reader.specs.Views.{sizes_of}
-use Rattle.reader.specs.Entries.{line_at}
 use Rattle.reader.specs.Fields.{ranged, room_most, letters_from, gates_in}
-
--- a line that is shorter than the text has its byte 10
-pub line_here : (k : ℕ) (xs l : List ℕ) → l ≡ before 10 xs → length l < length xs → Ok l ≡ line_at k xs
-line_here k xs l e h = ap Ok e ∙ sym (cond-true _ _ _ (shorter 10 xs l e h))
 
 -- a number and its range
 module _ (k least most n : ℕ) where

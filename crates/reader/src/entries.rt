@@ -1,5 +1,5 @@
 // The lines of a plan: a number, a gate line, a class, a flow.
-ghost use Rattle.std.specs.Prelude.{◌≡◌, ◌<◌, ◌≤◌, ◌&&◌, ◌||◌, map, IfOk, nat_le, nat_lt};
+ghost use Rattle.std.specs.Prelude.{◌≡◌, ◌≤◌, ◌&&◌, ◌||◌, map, IfOk, OnOk, nat_le, nat_lt};
 ghost use Rattle.reader.specs.Chain.{map_ok};
 ghost use Rattle.reader.specs.Contents.{largest_of};
 ghost use Rattle.reader.specs.Entries.{number_line, gate_line, class_line, flow_line, kind_after};
@@ -17,10 +17,9 @@ impl Reader<'_> {
     // The number on the next line, from `least` to `most`.
     #[tactic(auto, unfolding(crate::specs::Entries::number_line))]
     pub(crate) fn number_line(&mut self, due: Key, least: u64, most: u64) -> Result<u64, LineFault>
-        requires { self.old.line < 1000 }
         ensures value { result ≡ number_line self.old.line due least most self.old.rest.now }
         ensures bound { IfOk result (λ n. (least ≤ n) × (n ≤ most)) }
-        ensures past { PastLine self.old self.new }
+        ensures past { OnOk result (PastLine self.old self.new) }
     {
         let mut fields = self.due_line(due, 0)?;
         Ok(fields.number(least, most)?)
@@ -28,10 +27,9 @@ impl Reader<'_> {
 
     #[tactic(auto, unfolding(crate::specs::Entries::gate_line))]
     pub(crate) fn gate_line(&mut self) -> Result<GateLine, LineFault>
-        requires { self.old.line < 1000 }
         ensures value { result ≡ gate_line self.old.line self.old.rest.now }
         ensures bound { IfOk result LengthFits }
-        ensures past { PastLine self.old self.new }
+        ensures past { OnOk result (PastLine self.old self.new) }
     {
         let mut fields = self.due_line(Key::Gate, 1)?;
         Ok(fields.gate()?)
@@ -40,9 +38,8 @@ impl Reader<'_> {
     // The next class line, which has to be that of the class `due`.
     #[tactic(auto, unfolding(crate::specs::Entries::class_line))]
     pub(crate) fn class_line(&mut self, due: u8) -> Result<TrafficClass, PlanFault>
-        requires { self.old.line < 1000 }
         ensures value { map_ok sizes_of result ≡ class_line self.old.line due self.old.rest.now }
-        ensures past { PastLine self.old self.new }
+        ensures past { OnOk result (PastLine self.old self.new) }
     {
         let mut fields = self.due_line(Key::Class, 2)?;
         let class = fields.class()?;
@@ -59,9 +56,8 @@ impl Reader<'_> {
         classes: &[TrafficClass; 8],
         last: Place,
     ) -> Result<FlowLine, PlanFault>
-        requires { self.old.line < 1000 }
         ensures value { map_ok entry_of result ≡ flow_line self.old.line (map sizes_of classes.now) last self.old.rest.now }
-        ensures past { PastLine self.old self.new }
+        ensures past { OnOk result (PastLine self.old self.new) }
     {
         let mut fields = self.due_line(Key::Flow, 4)?;
         let class = fields.class()?;

@@ -5,27 +5,37 @@ ghost use Rattle.text.specs.Marks.{comma};
 ghost use Rattle.text.specs.Cuts.{before};
 ghost use Rattle.reader.specs.Chain.{map_ok};
 ghost use Rattle.reader.specs.Fields.{numeral_field, number_field, largest_field, gates_in, kind_in, gate_in, sizes_in, bucket_in, periodic_in, flow_in};
-ghost use Rattle.reader.specs.Moves.{Past};
+ghost use Rattle.reader.specs.Moves.{PastField};
 ghost use Rattle.reader.specs.Views.{sizes_of, flow_of, LengthFits};
 
 use crate::parsed::{Flow, Kind};
-use crate::reader::Reader;
+use crate::reader::Fields;
 use envelope::{Bucket, Periodic};
 use faults::FieldFault;
 use gates::{Gate, GateLine, TrafficClass};
-use text::numeral;
+use text::{cut, numeral};
 use units::limits::{
     MAX_BURST, MAX_CYCLE, MAX_FRAME, MAX_PERIOD, MAX_RATE_TICKS, MIN_BURST, MIN_FRAME,
 };
 use units::{Bytes, Ticks};
 
-impl Reader<'_> {
+impl<'a> Fields<'a> {
+    // The next field, or nothing where none is left.
+    fn piece(&mut self) -> &'a [u8]
+        ensures value { result.now ≡ before comma self.old.rest.now }
+        ensures past { PastField self.old self.new }
+    {
+        let (piece, rest) = cut(self.rest, b',');
+        self.rest = rest;
+        piece
+    }
+
     // The number in the next field.
     pub(crate) fn numeral(&mut self) -> Result<u64, FieldFault>
         ensures value { result ≡ numeral_field self.old.line (before comma self.old.rest.now) }
-        ensures past { Past comma self.old self.new }
+        ensures past { PastField self.old self.new }
     {
-        let field = self.piece(b',');
+        let field = self.piece();
         numeral(field).ok_or(FieldFault::Form(self.line))
     }
 
@@ -34,7 +44,7 @@ impl Reader<'_> {
     pub(crate) fn number(&mut self, least: u64, most: u64) -> Result<u64, FieldFault>
         ensures value { result ≡ number_field self.old.line least most (before comma self.old.rest.now) }
         ensures bound { IfOk result (λ n. (least ≤ n) × (n ≤ most)) }
-        ensures past { Past comma self.old self.new }
+        ensures past { PastField self.old self.new }
     {
         let n = self.numeral()?;
         if n < least || n > most {
@@ -47,7 +57,7 @@ impl Reader<'_> {
     pub(crate) fn class(&mut self) -> Result<u8, FieldFault>
         ensures value { result ≡ number_field self.old.line 0 7 (before comma self.old.rest.now) }
         ensures bound { IfOk result (λ c. c ≤ 7) }
-        ensures past { Past comma self.old self.new }
+        ensures past { PastField self.old self.new }
     {
         Ok(self.number(0, 7)? as u8)
     }
@@ -56,9 +66,9 @@ impl Reader<'_> {
     // would need an error type of its own in place of the fault.
     pub(crate) fn kind(&mut self) -> Result<Kind, FieldFault>
         ensures value { result ≡ kind_in self.old.line (before comma self.old.rest.now) }
-        ensures past { Past comma self.old self.new }
+        ensures past { PastField self.old self.new }
     {
-        let [letter] = self.piece(b',') else {
+        let [letter] = self.piece() else {
             return Err(FieldFault::Form(self.line));
         };
         match char::from(*letter) {
@@ -75,7 +85,7 @@ impl Reader<'_> {
         ensures bound { IfOk result LengthFits }
     {
         let length = Ticks(self.number(1, MAX_CYCLE)?);
-        let gates = read_gates(self.piece(b','), self.line)?;
+        let gates = read_gates(self.piece(), self.line)?;
         Ok(GateLine { length, gates })
     }
 
@@ -84,7 +94,7 @@ impl Reader<'_> {
     fn largest(&mut self) -> Result<u64, FieldFault>
         ensures value { result ≡ largest_field self.old.line (before comma self.old.rest.now) }
         ensures bound { IfOk result (λ n. (n ≤ most_frame) × (1 ≤ n → least_frame ≤ n)) }
-        ensures past { Past comma self.old self.new }
+        ensures past { PastField self.old self.new }
     {
         let n = self.number(0, MAX_FRAME)?;
         if n > 0 && n < MIN_FRAME {

@@ -3,6 +3,7 @@
 
 mod entries;
 mod fields;
+mod lines;
 mod lists;
 mod parsed;
 mod reader;

@@ -1,5 +1,5 @@
 // The lists of a plan: the lines one after another.
-ghost use Rattle.std.specs.Prelude.{◌≡◌, ◌<◌, ◌≤◌, [], map, IfOk, vec_items, vec_len, OnOk};
+ghost use Rattle.std.specs.Prelude.{◌≡◌, ◌≤◌, [], map, IfOk, vec_items, vec_len, OnOk};
 ghost use Rattle.std.specs.List.{AllByRecursion};
 ghost use Rattle.units.specs.Limits.{most_lines, most_flows};
 ghost use Rattle.reader.specs.Chain.{map_ok, each};
@@ -53,8 +53,7 @@ impl Reader<'_> {
         room: Room<GateLine, MAX_GATE_LINES>,
         count: u64,
     ) -> Result<Vec<GateLine>, LineFault>
-        requires line { self.old.line < 100 }
-        requires few { count ≤ most_lines }
+        requires { count ≤ most_lines }
         ensures value { map_ok vec_items result ≡ each next_gate count self.old.line self.old.rest.now [] }
         ensures bound { IfOk result (λ v. AllByRecursion LengthFits v.items × (vec_len v ≡ count)) }
         ensures past { OnOk result (PastLines count self.old self.new) }
@@ -69,7 +68,6 @@ impl Reader<'_> {
 
     // The eight class lines, class 7 first.
     pub(crate) fn class_list(&mut self) -> Result<[TrafficClass; 8], PlanFault>
-        requires { self.old.line < 100 }
         ensures value { map_ok (map sizes_of) result ≡ classes_listed self.old.line self.old.rest.now }
         ensures past { OnOk result (PastLines 8 self.old self.new) }
     {
@@ -88,7 +86,6 @@ impl Reader<'_> {
         classes: &[TrafficClass; 8],
         room: Room<FlowLine, MAX_FLOWS>,
     ) -> Result<Vec<FlowLine>, PlanFault>
-        requires line { self.old.line < 100 }
         ensures { map_ok entries_of result ≡ flows_listed (map sizes_of classes.now) self.old.line self.old.rest.now }
     {
         let count = self.number_line(Key::Flows, 0, MAX_FLOWS as u64)?;
@@ -107,8 +104,7 @@ impl Reader<'_> {
         room: Room<FlowLine, MAX_FLOWS>,
         count: u64,
     ) -> Result<Vec<FlowLine>, PlanFault>
-        requires line { self.old.line < 200 }
-        requires few { count ≤ most_flows }
+        requires { count ≤ most_flows }
         ensures value { map_ok entries_of result ≡ each (next_flow (map sizes_of classes.now)) count self.old.line self.old.rest.now [] }
         ensures past { OnOk result (PastLines count self.old self.new) }
     {

@@ -1,5 +1,6 @@
 // A plan text from its first byte to its last.
-ghost use Rattle.std.specs.Prelude.{◌≡◌, ◌⊎◌, Ok, Err, MatchResult};
+ghost use Rattle.std.specs.Prelude.{◌≡◌, ◌≤◌, ◌⊎◌, Ok, Err, length, MatchResult};
+ghost use Rattle.units.specs.Limits.{most_text};
 ghost use Rattle.faults.specs.declared.fault.PlanFault.TheVariants.{Memory};
 ghost use Rattle.reader.specs.Chain.{map_ok};
 ghost use Rattle.reader.specs.Parsed.{contents_of};
@@ -44,6 +45,7 @@ fn read_lines(
     lines: Room<GateLine, MAX_GATE_LINES>,
     flows: Room<FlowLine, MAX_FLOWS>,
 ) -> Result<Parsed, PlanFault>
+    requires { length text.now ≤ most_text }
     ensures { map_ok contents_of result ≡ read_lines text.now }
 {
     let mut reader = Reader {

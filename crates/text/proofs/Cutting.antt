@@ -1,25 +1,19 @@
 -- Cutting a text, by steps.
 use Rattle.std.proofs.Common.{◌≡◌, ℕ, suc, ◌+◌, ◌-◌, ◌<◌, ◌≤◌, true, false, cond, eqb, ltb, ◌||◌, List, [], ◌∷◌, length, take, drop, Some, None, position, sym, refl, ap, ◌∙◌, subst, ⊎_elim, arith}
 use Rattle.std.proofs.lemmas.Slice.Eq.{HasBytesAt}
-use Rattle.std.proofs.lemmas.List.{at_drop_more, length-take-le, take_rest}
+use Rattle.std.proofs.lemmas.List.{at_drop_more, take_rest}
 use Rattle.std.proofs.lemmas.List.Sums.{sum_by-cons}
 use Rattle.std.proofs.lemmas.List.Recursion.{is_position_or_len}
 use Rattle.std.specs.List.{list_any, position_or_len}
 use Rattle.std.proofs.lemmas.Bool.{cases_Bool, eq-eqb, cond-true, cond-false, lt-ltb, le-ltb, cases_lt}
-use Rattle.text.specs.Cuts.{at, before, has, how_many}
+use Rattle.text.specs.Cuts.{at, has, how_many}
 use Rattle.text.specs.Keys.{strip}
 
 -- an order of successors
 pub ltb_suc : (m n : ℕ) → ltb (suc m) (suc n) ≡ ltb m n
 ltb_suc m n = ⊎_elim (λ (h : m < n). lt-ltb (suc m) (suc n) (omega arith) ∙ sym (lt-ltb m n h)) (λ (h : n ≤ m). le-ltb (suc m) (suc n) (omega arith) ∙ sym (le-ltb m n h)) (cases_lt m n)
 
--- a byte stands within the text, or at its end
-pub at_le : (c : ℕ) (xs : List ℕ) → at c xs ≤ length xs
-unfolding at
-at_le c [] = omega arith
-at_le c (x ∷ xs) = let h = at_le c xs in elim (eqb x c) as (λ b. cond b 0 (suc (at c xs)) ≤ suc (length xs)) [ true ↦ omega arith | false ↦ omega arith ]
-
--- it is where std finds it, which answers the length of the text where it finds none
+-- a byte stands where std finds it, which answers the length of the text where it finds none
 at_position : (c : ℕ) (xs : List ℕ) → at c xs ≡ position_or_len (λ x. eqb x c) xs
 unfolding at
 at_position c xs = is_position_or_len (at c) (λ x. eqb x c) refl (λ x xs. ap (cond (eqb x c) 0) (omega arith)) xs
@@ -53,10 +47,6 @@ any_has c (x ∷ xs) =
       | true ↦ sym (lt-ltb 0 (suc (length xs)) (omega arith))
       | false ↦ any_has c xs ∙ sym (ltb_suc (at c xs) (length xs))
     ]
-
--- what stands before c is shorter than the text where c stands in it
-pub shorter : (c : ℕ) (xs l : List ℕ) → l ≡ before c xs → length l < length xs → has c xs ≡ true
-shorter c xs l e h = lt-ltb _ _ (omega (arith, ap length e, length-take-le (at c xs) xs (at_le c xs)))
 
 -- a front that is read byte by byte
 strip_from : (p xs : List ℕ) (i : ℕ) → i + length p ≤ length xs → HasBytesAt xs i p → Some (drop (i + length p) xs) ≡ strip p (drop i xs)

@@ -9,9 +9,6 @@ use Rattle.reader.proofs.reader.Reader.class_list.Goals as goal
 pub loop-number-init : goal.loop-number-init
 loop-number-init c = record { lines = begun next_class 8 c.args.self.now [] 8 [] refl refl; eight = refl }
 
-pub class_line-requires : goal.class_line-requires
-class_line-requires c = omega (arith, c.loop-number.invariant.lines.line, c.requires)
-
 pub returns-in_err-class : goal.returns-in_err-class
 unfolding classes_listed
 returns-in_err-class c =

@@ -14,9 +14,6 @@ loop-init c = record {
   room = c.args.room.wide;
 }
 
-pub flow_line-requires : goal.flow_line-requires
-flow_line-requires c = omega (arith, c.loop.invariant.lines.line, c.requires.line, c.requires.few, c.loop-test.true)
-
 pub returns-in_err-flow : goal.returns-in_err-flow
 returns-in_err-flow c =
     let p = err_from_is_err_and c.from_residual.result c.from_residual.ensures.1 in
@@ -27,7 +24,7 @@ returns-in_err-flow c =
     }
 
 pub push_reserved-requires : goal.push_reserved-requires
-push_reserved-requires c = omega (arith, c.loop.invariant.len, c.loop.invariant.room, c.requires.few, c.loop-test.true)
+push_reserved-requires c = omega (arith, c.loop.invariant.len, c.loop.invariant.room, c.requires, c.loop-test.true)
 
 pub loop-preserved : goal.loop-preserved
 loop-preserved c =

@@ -2,7 +2,7 @@ use Rattle.std.proofs.Common.{◌≡◌, true, false, leb, ap, arith, rules}
 use Rattle.std.proofs.lemmas.Bool.{le-leb}
 use Rattle.reader.specs.Fields.{bucket_in}
 use Rattle.reader.proofs.Checked.{rate_high}
-use Rattle.reader.proofs.reader.Reader.bucket.Goals as goal
+use Rattle.reader.proofs.reader.Fields.bucket.Goals as goal
 
 pub returns-in-Ok : goal.returns-in-Ok
 unfolding bucket_in

@@ -1,7 +1,7 @@
 use Rattle.std.proofs.Common.{rules}
 use Rattle.reader.specs.Fields.{number_field, sizes_in}
 use Rattle.reader.proofs.Checked.{sized_is}
-use Rattle.reader.proofs.reader.Reader.sizes.Goals as goal
+use Rattle.reader.proofs.reader.Fields.sizes.Goals as goal
 
 pub returns : goal.returns
 unfolding sizes_in number_field

@@ -3,7 +3,7 @@ use Rattle.faults.specs.declared.fault.FieldFault.TheVariants.{Range}
 use Rattle.units.specs.Limits.{most_jitter}
 use Rattle.reader.specs.Fields.{ranged, number_field, periodic_in}
 use Rattle.reader.proofs.Checked.{in_range, jitter_high}
-use Rattle.reader.proofs.reader.Reader.periodic.Goals as goal
+use Rattle.reader.proofs.reader.Fields.periodic.Goals as goal
 
 pub returns-in-Ok : goal.returns-in-Ok
 unfolding periodic_in number_field
