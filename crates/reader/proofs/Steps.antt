@@ -1,29 +1,20 @@
 -- Lists of lines, by steps of a loop.
-use Rattle.std.proofs.Common.{◌≡◌, ℕ, suc, ◌+◌, ◌-◌, ◌<◌, ◌≤◌, cond, eqb, List, [], ◌∷◌, ◌++◌, map, length, drop, set, IfOk, Some, None, Ok, Err, Option, Result, sym, refl, ap, ◌∙◌, arith, MatchOption}
-use Rattle.std.specs.Option.{ok_or}
-use Rattle.std.specs.List.{AllByRecursion}
-use Rattle.std.proofs.ByRecursion.{All-get_or}
+use Rattle.std.proofs.Common.{◌≡◌, ℕ, suc, ◌+◌, ◌-◌, ◌≤◌, List, [], ◌∷◌, ◌++◌, map, length, drop, set, Ok, Err, Result, sym, refl, ap, ◌∙◌, arith}
 use Rattle.std.proofs.lemmas.List.{length-map, length-drop, map-append}
 use Rattle.std.proofs.lemmas.Grind.{drop-set_at}
-use Rattle.std.proofs.lemmas.Bool.{eq-eqb, ne_eqb, cond-true, cond-false}
-use Rattle.units.specs.Limits.{most_lines, most_cycle}
 use Rattle.faults.specs.declared.fault.LineFault.{LineFault}
 use Rattle.faults.specs.declared.fault.PlanFault.{PlanFault}
-use Rattle.faults.specs.declared.fault.PlanFault.TheVariants.{Sum}
 use Rattle.gates.specs.declared.gate_line.GateLine.{GateLine}
-use Rattle.gates.specs.declared.gate_list.GateList.{GateList}
 use Rattle.gates.specs.declared.traffic_class.TrafficClass.{TrafficClass}
-use Rattle.gates.specs.Opened.{total, line, Lawful}
 use Rattle.text.specs.Cuts.{past}
 use Rattle.reader.specs.declared.parsed.FlowLine.{FlowLine}
 use Rattle.reader.specs.declared.parsed.Place.{Place}
 use Rattle.reader.specs.declared.reader.Reader.{Reader}
-use Rattle.reader.specs.Chain.{and_then, map_ok, each, skip}
+use Rattle.reader.specs.Chain.{and_then, each, skip}
 use Rattle.reader.specs.Entries.{gate_line, class_line, flow_line, first, place_after, next_gate, next_class, next_flow}
 use Rattle.reader.specs.Moves.{PastLine, PastLines}
-use Rattle.reader.specs.Parsed.{lines_of}
 use Rattle.reader.specs.Contents.{ClassEntry, FlowEntry}
-use Rattle.reader.specs.Views.{sizes_of, entry_of, entry_place, LengthFits}
+use Rattle.reader.specs.Views.{sizes_of, entry_of, entry_place}
 
 -- some lines are left of the n on which an old reader began with z: they and what is read so far give what all of them give
 pub record Midway {S E : Type 0} (f : S → ℕ → List ℕ → Result S E) (n : ℕ) (old : Reader) (z : S) (left : ℕ) (now : Reader) (s : S) : Type 0 where
@@ -32,10 +23,6 @@ pub record Midway {S E : Type 0} (f : S → ℕ → List ℕ → Result S E) (n 
   pub line : now.line + left ≡ old.line + n
 
 module _ {S E : Type 0} (f : S → ℕ → List ℕ → Result S E) (n : ℕ) (old : Reader) (z : S) (left : ℕ) where
-  -- before the first line
-  pub begun : (s : S) → left ≡ n → s ≡ z → Midway f n old z left old s
-  begun s l e = record { value = (λ j. each f (l j) old.line old.rest.now (e j)); rest = ap (λ m. skip m old.rest.now) l; line = omega arith }
-
   module _ (now : Reader) (s : S) (h : Midway f n old z left now s) where
     -- one line more
     pub onward : (m : ℕ) (new : Reader) (next : S) → left ≡ suc m → Ok next ≡ f s now.line now.rest.now → PastLine now new → Midway f n old z m new next
@@ -103,28 +90,3 @@ sizes_put ts i j m t e h k l = ap (map sizes_of) (drop-set_at ts i j t k (omega 
 -- the class that is due in front of those that are read
 pub class_due : (ts : List TrafficClass) (m : ℕ) → length ts ≡ 8 → m ≤ 8 → 7 - length (map sizes_of (drop m ts)) ≡ m - 1
 class_due ts m e h = let l = length-map (drop m ts) sizes_of in let d = length-drop m ts in omega arith
-
--- lines that are long enough and as many as a gate list has make one exactly where their lengths add up to the cycle
-each_long : (gs : List GateLine) (i : ℕ) → AllByRecursion LengthFits gs → i < length gs → 1 ≤ (line gs i).length.0
-each_long gs i all h = (All-get_or LengthFits gs i (record { length = record { 0 = 0 }; gates = [] }) h all).0
-
--- making a gate list does the check of the sum
-pub listed_is : (cycle n : ℕ) (gs : List GateLine) (o : Option GateList) → AllByRecursion LengthFits gs → length gs ≡ n → 1 ≤ n → n ≤ most_lines → cycle ≤ most_cycle →
-    MatchOption o (Lawful gs cycle → ⊥) (λ g. (g.cycle ≡ record { 0 = cycle }) × (lines_of g ≡ gs)) →
-    map_ok lines_of (ok_or o (Sum (3 + n))) ≡ cond (eqb (total gs) cycle) (Ok gs) (Err (Sum (3 + n)))
-listed_is cycle n gs None all is some few most none =
-    sym (cond-false _ _ _ (ne_eqb (total gs) cycle (λ e. none (record { each = λ i h. each_long gs i all h; together = e; some = omega arith; few = omega arith; most = most }))))
-listed_is cycle n gs (Some g) all is some few most e =
-    let c : g.cycle.0 ≡ cycle = ap (λ x. x.0) e.0 in
-    ap Ok e.1 ∙ sym (cond-true _ _ _ (eq-eqb (total gs) cycle (ap total (sym e.1) ∙ g.together ∙ c)))
-
--- and the list has the cycle of the plan
-pub listed_cycle : (cycle : ℕ) (gs : List GateLine) (o : Option GateList) (e : PlanFault) →
-    MatchOption o (Lawful gs cycle → ⊥) (λ g. (g.cycle ≡ record { 0 = cycle }) × (lines_of g ≡ gs)) → IfOk (ok_or o e) (λ g. g.cycle.0 ≡ cycle)
-listed_cycle cycle gs None e is = tt
-listed_cycle cycle gs (Some g) e is = ap (λ x. x.0) is.0
-
--- what holds whatever is made
-pub made_any : {X Y : Type 0} (r : Result X Y) (P : Type 0) → P → IfOk r (λ _. P)
-made_any (Ok x) P h = h
-made_any (Err y) P h = tt

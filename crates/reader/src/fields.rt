@@ -153,6 +153,7 @@ impl<'a> Fields<'a> {
 }
 
 // The gates that eight letters write, class 7 first.
+#[tactic(auto, unfolding(crate::specs::Fields::gates_in))]
 fn read_gates(text: &[u8], line: u32) -> Result<[Gate; 8], FieldFault>
     ensures { result ≡ gates_in line text.now }
 {

@@ -25,11 +25,3 @@ loop-line-preserved c =
           held_same _ _ _ _ _ _ (ap vec_items w.buckets-is) (ap vec_items w.periodics-is ∙ w.in_ok-push-in-Periodic.ensures.items) (periodic_more _ ls i l lt at bs ps c.loop-line.invariant w.in-Periodic.periodic w.if-line-class.true w.in-Periodic.is)
       | else-line-class w ↦ held_same _ _ _ _ _ _ (ap vec_items w.buckets-is) (ap vec_items w.periodics-is) (other_more _ ls i l lt at bs ps c.loop-line.invariant w.if-line-class.false)
     ]
-
-pub returns : goal.returns
-returns c =
-    let all = take_all c.loop-line.line-index c.args.flows.now c.loop-line-test.false in
-    record {
-      buckets = c.loop-line.invariant.buckets ∙ ap (λ ls. flows_of c.args.class bucket_kind (map entry_of ls)) all;
-      periodics = c.loop-line.invariant.periodics ∙ ap (λ ls. flows_of c.args.class periodic_kind (map entry_of ls)) all;
-    }

@@ -1,26 +1,20 @@
-use Rattle.std.proofs.Common.{◌≡◌, ◌-◌, ◌∷◌, [], map, drop, Ok, refl, sym, ap, ◌∙◌, arith, rules}
+use Rattle.std.proofs.Common.{◌≡◌, ◌-◌, ◌∷◌, [], map, drop, Ok, sym, ap, ◌∙◌, arith, rules}
 use Rattle.std.proofs.lemmas.Result.{err_from_is_err_and}
 use Rattle.reader.specs.Entries.{next_class}
 use Rattle.reader.specs.Reading.{classes_listed}
 use Rattle.reader.specs.Views.{sizes_of}
-use Rattle.reader.proofs.Steps.{begun, onward, stopped, ended, passed, class_next, class_stop, class_due, sizes_put}
+use Rattle.reader.proofs.Steps.{onward, stopped, ended, passed, class_next, class_stop, class_due, sizes_put}
 use Rattle.reader.proofs.reader.Reader.class_list.Goals as goal
 
-pub loop-number-init : goal.loop-number-init
-loop-number-init c = record { lines = begun next_class 8 c.args.self.now [] 8 [] refl refl; eight = refl }
-
-pub returns-in_err-class : goal.returns-in_err-class
+pub returns-in_err-class-clause-value : goal.returns-in_err-class-clause-value
 unfolding classes_listed
-returns-in_err-class c =
+returns-in_err-class-clause-value c =
     let p = err_from_is_err_and c.from_residual.result c.from_residual.ensures.1 in
     let h = c.in_err-class.ensures in
     let now = c.loop-number.self in
     let cs = map sizes_of (drop c.loop-number.number c.loop-number.classes) in
     let due = class_due c.loop-number.classes c.loop-number.number c.loop-number.invariant.eight (omega arith) in
-    record {
-      value = rw (p.1, p.2) (stopped next_class 8 c.args.self.now [] c.loop-number.number now cs c.loop-number.invariant.lines (c.loop-number.number - 1) _ (omega arith) (class_stop cs _ now.line now.rest.now due _ h.value));
-      past = rw p.1 tt;
-    }
+    rw (p.1, p.2) (stopped next_class 8 c.args.self.now [] c.loop-number.number now cs c.loop-number.invariant.lines (c.loop-number.number - 1) _ (omega arith) (class_stop cs _ now.line now.rest.now due _ h.value))
 
 pub loop-number-preserved : goal.loop-number-preserved
 loop-number-preserved c =

@@ -1,30 +1,16 @@
-use Rattle.std.proofs.Common.{◌+◌, ◌-◌, [], map, length, vec_items, sym, ap, ◌∙◌, arith}
+use Rattle.std.proofs.Common.{◌+◌, ◌-◌, [], map, vec_items, sym, ap, ◌∙◌, arith}
 use Rattle.std.proofs.lemmas.Result.{err_from_is_err_and}
 use Rattle.reader.specs.Entries.{first, place_after, next_flow}
 use Rattle.reader.specs.Parsed.{entries_of}
 use Rattle.reader.specs.Views.{sizes_of, entry_of}
-use Rattle.reader.proofs.Steps.{begun, onward, stopped, ended, passed, flow_next, flow_stop, place_last, entries_push}
+use Rattle.reader.proofs.Steps.{onward, stopped, ended, passed, flow_next, flow_stop, place_last, entries_push}
 use Rattle.reader.proofs.reader.Reader.flow_lines.Goals as goal
 
-pub loop-init : goal.loop-init
-loop-init c = record {
-  lines = begun (next_flow (map sizes_of c.args.classes.now)) c.args.count c.args.self.now [] _ _ (omega arith) (ap (map entry_of) c.args.room.empty);
-  place = ap (λ fs. place_after first (map entry_of fs)) (sym c.args.room.empty);
-  len = c.args.room.list.ok.0 ∙ ap length c.args.room.empty;
-  room = c.args.room.wide;
-}
-
-pub returns-in_err-flow : goal.returns-in_err-flow
-returns-in_err-flow c =
+pub returns-in_err-flow-clause-value : goal.returns-in_err-flow-clause-value
+returns-in_err-flow-clause-value c =
     let p = err_from_is_err_and c.from_residual.result c.from_residual.ensures.1 in
     let cs = map sizes_of c.args.classes.now in
-    record {
-      value = rw (p.1, p.2) (stopped (next_flow cs) c.args.count c.args.self.now [] _ c.loop.self _ c.loop.invariant.lines (c.args.count - (c.loop.counter + 1)) _ (omega arith) (flow_stop cs (entries_of c.loop.flows) _ _ _ c.loop.invariant.place _ c.in_err-flow.ensures.value));
-      past = rw p.1 tt;
-    }
-
-pub push_reserved-requires : goal.push_reserved-requires
-push_reserved-requires c = omega (arith, c.loop.invariant.len, c.loop.invariant.room, c.requires, c.loop-test.true)
+    rw (p.1, p.2) (stopped (next_flow cs) c.args.count c.args.self.now [] _ c.loop.self _ c.loop.invariant.lines (c.args.count - (c.loop.counter + 1)) _ (omega arith) (flow_stop cs (entries_of c.loop.flows) _ _ _ c.loop.invariant.place _ c.in_err-flow.ensures.value))
 
 pub loop-preserved : goal.loop-preserved
 loop-preserved c =
