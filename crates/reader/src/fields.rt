@@ -124,7 +124,7 @@ impl<'a> Fields<'a> {
     }
 
     // The numbers of a bucket. Its rate is at most a byte a tick, which is seen once all three are read.
-    #[tactic(auto, unfolding(crate::specs::Fields::bucket_in))]
+    #[tactic(auto, unfolding(crate::specs::Fields::bucket_in, crate::specs::Fields::number_field))]
     fn bucket(&mut self) -> Result<Flow, FieldFault>
         ensures { map_ok flow_of result ≡ bucket_in self.old.line self.old.rest.now }
     {
