@@ -1,13 +1,15 @@
 -- The refusal, the line and the layer of each fault. Assumes nothing.
-use Rattle.std.specs.Prelude.{ℕ}
+use Rattle.std.specs.Prelude.{ℕ, List, ◌++◌, codes, decimal}
 use Rattle.units.specs.declared.refusal.Refusal.{Refusal}
 use Rattle.units.specs.declared.refusal.Refusal.TheVariants as refusal
+use Rattle.units.specs.Refusals.{refusal_number}
 use Rattle.faults.specs.declared.fault.FieldFault.TheVariants.{Form, Range}
 use Rattle.faults.specs.declared.fault.LineFault.TheVariants.{Missing, Key, Field}
 use Rattle.faults.specs.declared.fault.PlanFault.{PlanFault}
 use Rattle.faults.specs.declared.fault.PlanFault.TheVariants.{Size, Sum, Order, More, Line, Memory}
 use Rattle.faults.specs.declared.layer.Layer.{Layer}
 use Rattle.faults.specs.declared.layer.Layer.TheVariants as layer
+use Rattle.faults.specs.Layers.{layer_word}
 
 -- the refusal that a caller is told
 abbrev pub fault_refusal : PlanFault → Refusal
@@ -43,3 +45,7 @@ fault_layer (Sum k) = layer.Plan
 fault_layer (Order k) = layer.Plan
 fault_layer (More k) = layer.Plan
 fault_layer Memory = layer.Plan
+
+-- the fault as it is reported, on three lines split by byte 10: the number of its refusal, its line and its layer
+abbrev pub fault_report : PlanFault → List ℕ
+fault_report f = codes "refused=" ++ decimal (refusal_number (fault_refusal f)) ++ codes "\nline=" ++ decimal (fault_line f) ++ codes "\nlayer=" ++ layer_word (fault_layer f)

@@ -1,11 +1,12 @@
 // The faults of the three layers. A number in a fault is the line that it was found on, counted from 1.
-ghost use Rattle.std.specs.Prelude.{◌≡◌};
+ghost use Rattle.std.specs.Prelude.{◌≡◌, Some};
 ghost use Rattle.faults.specs.declared.fault.LineFault.TheVariants.{Field};
 ghost use Rattle.faults.specs.declared.fault.PlanFault.TheVariants.{Line, Memory};
-ghost use Rattle.faults.specs.Faults.{fault_refusal, fault_line, fault_layer};
+ghost use Rattle.faults.specs.Faults.{fault_refusal, fault_line, fault_layer, fault_report};
 
 use crate::layer::Layer;
 use std::alloc::AllocError;
+use std::fmt;
 use units::Refusal;
 
 // A field is wrong.
@@ -76,12 +77,12 @@ impl From<AllocError> for PlanFault {
     }
 }
 
-impl PlanFault {
-    // The refusal that a caller is told, with its number.
-    pub fn refusal(self) -> Refusal
-        ensures { result ≡ fault_refusal self }
-    {
-        match self {
+// The refusal that a caller is told, with its number.
+impl From<PlanFault> for Refusal {
+    ghost from_gives = { λ e r. r ≡ fault_refusal e };
+
+    fn from(fault: PlanFault) -> Refusal {
+        match fault {
             PlanFault::Size => Refusal::TextSize,
             PlanFault::Line(LineFault::Missing(_)) => Refusal::LineMissing,
             PlanFault::Line(LineFault::Key(_)) => Refusal::WrongKey,
@@ -93,7 +94,9 @@ impl PlanFault {
             PlanFault::Memory => Refusal::Memory,
         }
     }
+}
 
+impl PlanFault {
     // The line of the fault, counted from 1, or 0 for the whole text.
     pub fn line(self) -> u32
         ensures { result ≡ fault_line self }
@@ -116,5 +119,17 @@ impl PlanFault {
             PlanFault::Line(_) => Layer::Line,
             _ => Layer::Plan,
         }
+    }
+}
+
+// Three lines: the number of the refusal, the line and the layer. The last is not ended.
+impl fmt::Display for PlanFault {
+    ghost output = { λ f. Some (fault_report f) };
+
+    fn fmt<W: fmt::Write>(&self, f: &mut fmt::Formatter<W>) -> fmt::Result {
+        let number = Refusal::from(*self).number();
+        let line = self.line();
+        let layer = self.layer();
+        write!(f, "refused={number}\nline={line}\nlayer={layer}")
     }
 }

@@ -1,8 +1,9 @@
 // The layer at which a fault was found, and the word for it.
-ghost use Rattle.std.specs.Prelude.{◌≡◌, Some, MatchOption, ◌≢◌};
+ghost use Rattle.std.specs.Prelude.{◌≡◌, Some, MatchResult, ◌≢◌};
 ghost use Rattle.faults.specs.Layers.{layer_word};
 
 use std::fmt;
+use std::str::FromStr;
 
 #[derive(Clone, Copy, PartialEq, Eq, Debug)]
 pub enum Layer {
@@ -22,16 +23,26 @@ impl Layer {
             Layer::Plan => "plan",
         }
     }
+}
 
-    // The layer that a word stands for, if it is such a word.
-    pub fn named(word: &str) -> Option<Layer>
-        ensures { MatchOption result ((l : Layer) → word.now ≢ layer_word l) (λ l. word.now ≡ layer_word l) }
-    {
+// A word that stands for no layer.
+#[derive(Clone, Copy, PartialEq, Eq, Debug)]
+pub struct NoLayer;
+
+impl FromStr for Layer {
+    ghost use Rattle.faults.specs.declared.layer.Layer.{Layer};
+
+    type Err = NoLayer;
+
+    ghost from_str_gives = { λ word r. MatchResult r (λ l. word ≡ layer_word l) (λ _. (l : Layer) → word ≢ layer_word l) };
+
+    // The layer that the word stands for, if it is such a word.
+    fn from_str(word: &str) -> Result<Layer, NoLayer> {
         match word {
-            "field" => Some(Layer::Field),
-            "line" => Some(Layer::Line),
-            "plan" => Some(Layer::Plan),
-            _ => None,
+            "field" => Ok(Layer::Field),
+            "line" => Ok(Layer::Line),
+            "plan" => Ok(Layer::Plan),
+            _ => Err(NoLayer),
         }
     }
 }

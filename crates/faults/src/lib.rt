@@ -5,4 +5,4 @@ mod fault;
 mod layer;
 
 pub use fault::{FieldFault, LineFault, PlanFault};
-pub use layer::Layer;
+pub use layer::{Layer, NoLayer};

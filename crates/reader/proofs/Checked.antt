@@ -1,26 +1,14 @@
 -- The checks of lines and fields, by their outcomes.
-use Rattle.std.proofs.Common.{◌≡◌, ℕ, zero, suc, ◌+◌, ◌-◌, ◌<◌, ◌≤◌, false, leb, List, [], ◌∷◌, map, length, get_or, drop, set, Some, None, Ok, Err, Option, sym, refl, ap, ◌∙◌, ⊎_elim, arith, MatchOption}
+use Rattle.std.proofs.Common.{◌≡◌, ℕ, ◌+◌, ◌-◌, ◌<◌, ◌≤◌, List, [], ◌∷◌, length, get_or, drop, set, Some, None, Ok, Option, sym, ap, ◌∙◌, ⊎_elim, arith}
 use Rattle.std.specs.Option.{ok_or}
-use Rattle.std.proofs.lemmas.List.{at_drop_more, at_drop_all}
-use Rattle.std.proofs.lemmas.Bool.{cases_lt, eq-eqb, ne_eqb, le-leb, lt-leb, and_from, and_left, and_right, cond-true, cond-false}
-use Rattle.units.specs.Limits.{least_frame, most_frame, most_depth, least_burst, most_burst, most_rate_ticks, most_period, most_jitter}
-use Rattle.envelope.specs.Ranges.{BucketRange, PeriodicRange}
-use Rattle.faults.specs.declared.fault.FieldFault.TheVariants.{Form, Range}
+use Rattle.std.proofs.lemmas.List.{at_drop_more, at_drop_all, drop-set}
+use Rattle.std.proofs.lemmas.Bool.{cases_lt, eq-eqb, ne_eqb, le-leb, and_from, cond-true, cond-false}
+use Rattle.units.specs.Limits.{least_frame, most_frame, most_depth}
+use Rattle.faults.specs.declared.fault.FieldFault.TheVariants.{Form}
 use Rattle.gates.specs.declared.gate_line.Gate.{Gate}
 use Rattle.gates.specs.declared.gate_line.Gate.TheVariants.{Open, Shut}
-use Rattle.gates.specs.declared.traffic_class.TrafficClass.{TrafficClass}
 use Rattle.gates.specs.Sizes.{Sized}
-use Rattle.text.specs.Cuts.{before}
-use Rattle.text.proofs.Cutting.{shorter}
-use Rattle.reader.specs.Chain.{and_then, map_ok}
-use Rattle.reader.specs.Contents.{ClassEntry, largest_of}
-use Rattle.reader.specs.Views.{sizes_of}
-use Rattle.reader.specs.Entries.{line_at}
 use Rattle.reader.specs.Fields.{ranged, room_most, letters_from, gates_in}
-
--- a line that is shorter than the text has its byte 10
-pub line_here : (k : ℕ) (xs l : List ℕ) → l ≡ before 10 xs → length l < length xs → Ok l ≡ line_at k xs
-line_here k xs l e h = ap Ok e ∙ sym (cond-true _ _ _ (shorter 10 xs l e h))
 
 -- a number and its range
 module _ (k least most n : ℕ) where
@@ -28,26 +16,12 @@ module _ (k least most n : ℕ) where
   pub in_range : least ≤ n → n ≤ most → Ok n ≡ ranged k least most n
   in_range h l = sym (cond-true _ _ _ (and_from _ _ (le-leb least n h) (le-leb n most l)))
 
-  -- too small
-  pub below_range : n < least → Err (Range k) ≡ ranged k least most n
-  below_range h = sym (cond-false _ _ _ (and_left _ _ (lt-leb least n h)))
-
-  -- too large
-  pub above_range : most < n → Err (Range k) ≡ ranged k least most n
-  above_range h = sym (cond-false _ _ _ (and_right _ _ (lt-leb n most h)))
-
--- a place is written in front of those behind it
-pub drop_set : {X : Type 0} (xs : List X) (i : ℕ) (x : X) → i < length xs → drop i (set xs i x) ≡ x ∷ drop (suc i) xs
-drop_set [] i x h = absurd (omega arith)
-drop_set (y ∷ ys) zero x h = refl
-drop_set (y ∷ ys) (suc i) x h = drop_set ys i x (omega arith)
-
 -- one place more, where i places from the end are written
 pub put_front : {X : Type 0} (xs : List X) (i : ℕ) (x : X) → length xs ≡ 8 → i < 8 → drop (8 - (i + 1)) (set xs (7 - i) x) ≡ x ∷ drop (8 - i) xs
 put_front xs i x eight h =
     let a : 8 - (i + 1) ≡ 7 - i = omega arith in
-    let b : suc (7 - i) ≡ 8 - i = omega arith in
-    ap (λ j. drop j (set xs (7 - i) x)) a ∙ drop_set xs (7 - i) x (omega arith) ∙ ap (λ j. x ∷ drop j xs) b
+    let b : 7 - i + 1 ≡ 8 - i = omega arith in
+    ap (λ j. drop j (set xs (7 - i) x)) a ∙ drop-set xs (7 - i) x (omega arith) ∙ ap (λ j. x ∷ drop j xs) b
 
 -- one letter more: i letters are read, and the gates from 8 - i on are theirs
 module _ (gs : List Gate) (xs : List ℕ) (i : ℕ) (eight : length gs ≡ 8) (h : i < length xs) (l : i < 8) where
@@ -73,31 +47,10 @@ pub letters_end : (gs : List Gate) (xs : List ℕ) (i : ℕ) → length xs ≤ i
 unfolding letters_from
 letters_end gs xs i h k = let z : 8 - i ≡ 0 = omega arith in at_drop_all (letters_from (drop (8 - i) gs)) xs i h ∙ ap (λ j. Some (drop j gs)) z
 
--- not eight letters
-pub gates_short : (k : ℕ) (xs : List ℕ) → (length xs ≡ 8 → ⊥) → Err (Form k) ≡ gates_in k xs
-unfolding gates_in
-gates_short k xs h = sym (cond-false _ _ _ (ne_eqb _ 8 h))
-
 -- eight letters, and what they write
 pub gates_are : (k : ℕ) (xs : List ℕ) (o : Option (List Gate)) → length xs ≡ 8 → letters_from [] xs ≡ o → ok_or o (Form k) ≡ gates_in k xs
 unfolding gates_in
 gates_are k xs o h e = ap (λ p. ok_or p (Form k)) (sym e) ∙ sym (cond-true _ _ _ (eq-eqb _ 8 h))
-
--- what a bucket and a periodic flow still lack where they are refused after the other checks
-pub rate_high : (burst num den : ℕ) → least_burst ≤ burst → burst ≤ most_burst → 1 ≤ den → den ≤ most_rate_ticks → (BucketRange burst num den → ⊥) → leb num den ≡ false
-rate_high burst num den a b c d none =
-    ⊎_elim
-    (λ (h : den < num). lt-leb num den h)
-    (λ (h : num ≤ den). absurd (none (record { burst_low = a; burst_high = b; den_low = c; den_high = d; num_high = h })))
-    (cases_lt den num)
-
--- the jitter of a periodic flow that is refused
-pub jitter_high : (k bytes period jitter : ℕ) → least_frame ≤ bytes → bytes ≤ most_frame → 1 ≤ period → period ≤ most_period → (PeriodicRange bytes period jitter → ⊥) → Err (Range k) ≡ ranged k 0 most_jitter jitter
-jitter_high k bytes period jitter a b c d none =
-    ⊎_elim
-    (λ (h : most_jitter < jitter). above_range k 0 most_jitter jitter h)
-    (λ (h : jitter ≤ most_jitter). absurd (none (record { bytes_low = a; bytes_high = b; period_low = c; period_high = d; jitter_high = h })))
-    (cases_lt most_jitter jitter)
 
 -- the room of a class that sends nothing, and of one that sends
 room_none : (m : ℕ) → m ≡ 0 → room_most m ≡ 0
@@ -116,44 +69,3 @@ module _ (m d : ℕ) where
       (λ (h : m < 1). let z : m ≡ 0 = omega arith in let r = room_none m z in record { most = most; least = least; room = low; deep = omega arith; silent = λ e. omega arith })
       (λ (h : 1 ≤ m). let r = room_some m h in record { most = most; least = least; room = low; deep = omega arith; silent = λ e. absurd (omega arith) })
       (cases_lt m 1)
-
-  -- and such sizes have a depth in its range
-  room_in : Sized m d → d ≤ room_most m
-  room_in s =
-      ⊎_elim
-      (λ (h : m < 1). let z : m ≡ 0 = omega arith in let r = room_none m z in let e = s.silent z in omega arith)
-      (λ (h : 1 ≤ m). let r = room_some m h in omega (arith, s.deep))
-      (cases_lt m 1)
-
-  -- no such sizes: the depth is out of range
-  outside : (k : ℕ) → m ≤ most_frame → (1 ≤ m → least_frame ≤ m) → (Sized m d → ⊥) → Err (Range k) ≡ ranged k m (room_most m) d
-  outside k most least none =
-      ⊎_elim
-      (λ (h : d < m). below_range k m (room_most m) d h)
-      (λ (h : m ≤ d).
-      ⊎_elim
-      (λ (g : room_most m < d). above_range k m (room_most m) d g)
-      (λ (g : d ≤ room_most m). absurd (none (in_room most least h g)))
-      (cases_lt (room_most m) d))
-      (cases_lt d m)
-
--- a largest frame and a depth
-abbrev sizes_with : ℕ → ℕ → ClassEntry
-sizes_with m d = record { largest = m; depth = d }
-
--- making a class does the last check of its line
-pub sized_is : (k m d : ℕ) (o : Option TrafficClass) → m ≤ most_frame → (1 ≤ m → least_frame ≤ m) →
-    MatchOption o (Sized m d → ⊥) (λ t. (t.largest ≡ record { 0 = m }) × (t.depth ≡ record { 0 = d })) →
-    map_ok sizes_of (ok_or o (Range k)) ≡ and_then (ranged k m (room_most m) d) (λ n. Ok (sizes_with m n))
-sized_is k m d None most least none = ap (λ r. and_then r (λ n. Ok (sizes_with m n))) (outside m d k most least none)
-sized_is k m d (Some t) most least is =
-    let a : t.largest.0 ≡ m = ap (λ b. b.0) is.0 in
-    let b : t.depth.0 ≡ d = ap (λ b. b.0) is.1 in
-    let s : Sized m d = record { most = most; least = least; room = omega (arith, t.sized.room); deep = omega (arith, t.sized.deep); silent = λ z. omega (arith, t.sized.silent (omega arith)) } in
-    (λ i. Ok (sizes_with (a i) (b i))) ∙ ap (λ r. and_then r (λ n. Ok (sizes_with m n))) (in_range k m (room_most m) d s.room (room_in m d s))
-
--- the largest frame of a class that is read from the list of classes
-pub largest_at : (ts : List TrafficClass) (c : ℕ) (t : TrafficClass) → c < length ts → t ≡ get_or ts c t → t.largest.0 ≡ largest_of (map sizes_of ts) c
-largest_at [] c t h e = absurd (omega arith)
-largest_at (x ∷ ts) zero t h e = ap (λ y. y.largest.0) e
-largest_at (x ∷ ts) (suc c) t h e = largest_at ts c t (omega arith) e

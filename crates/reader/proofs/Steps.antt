@@ -1,66 +1,52 @@
--- Lists of lines, by steps of a loop that counts i from 0 to n.
-use Rattle.std.proofs.Common.{◌≡◌, ℕ, suc, ◌+◌, ◌-◌, ◌<◌, ◌≤◌, cond, eqb, List, [], ◌∷◌, ◌++◌, map, length, drop, set, IfOk, Some, None, Ok, Err, Option, Result, sym, refl, ap, ◌∙◌, arith, MatchOption}
-use Rattle.std.specs.Option.{ok_or}
-use Rattle.std.specs.List.{AllByRecursion}
-use Rattle.std.proofs.ByRecursion.{All-get_or}
+-- Lists of lines, by steps of a loop.
+use Rattle.std.proofs.Common.{◌≡◌, ℕ, suc, ◌+◌, ◌-◌, ◌≤◌, List, [], ◌∷◌, ◌++◌, map, length, drop, set, Ok, Err, Result, sym, refl, ap, ◌∙◌, arith}
 use Rattle.std.proofs.lemmas.List.{length-map, length-drop, map-append}
-use Rattle.std.proofs.lemmas.Bool.{eq-eqb, ne_eqb, le-leb, lt-leb, and_from, and_left, and_right, cond-true, cond-false}
-use Rattle.units.specs.Limits.{most_text, most_lines, most_cycle}
+use Rattle.std.proofs.lemmas.Grind.{drop-set_at}
 use Rattle.faults.specs.declared.fault.LineFault.{LineFault}
 use Rattle.faults.specs.declared.fault.PlanFault.{PlanFault}
-use Rattle.faults.specs.declared.fault.PlanFault.TheVariants.{Size, Sum}
 use Rattle.gates.specs.declared.gate_line.GateLine.{GateLine}
-use Rattle.gates.specs.declared.gate_list.GateList.{GateList}
 use Rattle.gates.specs.declared.traffic_class.TrafficClass.{TrafficClass}
-use Rattle.gates.specs.Opened.{total, line, Lawful}
 use Rattle.text.specs.Cuts.{past}
 use Rattle.reader.specs.declared.parsed.FlowLine.{FlowLine}
 use Rattle.reader.specs.declared.parsed.Place.{Place}
-use Rattle.reader.specs.Chain.{and_then, map_ok, each, skip}
+use Rattle.reader.specs.declared.reader.Reader.{Reader}
+use Rattle.reader.specs.Chain.{and_then, each, skip}
 use Rattle.reader.specs.Entries.{gate_line, class_line, flow_line, first, place_after, next_gate, next_class, next_flow}
-use Rattle.reader.specs.Parsed.{lines_of}
-use Rattle.reader.specs.Reading.{read_lines, read_plan}
+use Rattle.reader.specs.Moves.{PastLine, PastLines}
 use Rattle.reader.specs.Contents.{ClassEntry, FlowEntry}
-use Rattle.reader.specs.Views.{sizes_of, entry_of, entry_place, LengthFits}
-use Rattle.reader.proofs.Checked.{put_front}
+use Rattle.reader.specs.Views.{sizes_of, entry_of, entry_place}
 
-module _ {S E : Type 0} (f : S → ℕ → List ℕ → Result S E) (n i k : ℕ) (text : List ℕ) (s : S) where
-  -- before the first line
-  pub each_start : (z : S) → s ≡ z → each f (n - 0) k text s ≡ each f n k text z
-  each_start z e = let m : n - 0 ≡ n = omega arith in (λ j. each f (m j) k text (e j))
+-- some lines are left of the n on which an old reader began with z: they and what is read so far give what all of them give
+pub record Midway {S E : Type 0} (f : S → ℕ → List ℕ → Result S E) (n : ℕ) (old : Reader) (z : S) (left : ℕ) (now : Reader) (s : S) : Type 0 where
+  pub value : each f left now.line now.rest.now s ≡ each f n old.line old.rest.now z
+  pub rest : skip left now.rest.now ≡ skip n old.rest.now
+  pub line : now.line + left ≡ old.line + n
 
-  -- one line more
-  pub each_more : (next : S) → i < n → Ok next ≡ f s k text → each f (n - i) k text s ≡ each f (n - (i + 1)) (k + 1) (past 10 text) next
-  unfolding each
-  each_more next h e =
-      let m : n - i ≡ suc (n - (i + 1)) = omega arith in
-      ap (λ j. each f j k text s) m ∙ ap (λ r. and_then r (each f (n - (i + 1)) (k + 1) (past 10 text))) (sym e)
+module _ {S E : Type 0} (f : S → ℕ → List ℕ → Result S E) (n : ℕ) (old : Reader) (z : S) (left : ℕ) where
+  module _ (now : Reader) (s : S) (h : Midway f n old z left now s) where
+    -- one line more
+    pub onward : (m : ℕ) (new : Reader) (next : S) → left ≡ suc m → Ok next ≡ f s now.line now.rest.now → PastLine now new → Midway f n old z m new next
+    unfolding each skip
+    onward m new next l e p = record {
+      value = (λ i. each f m (p.line i) (p.rest i) next) ∙ ap (λ r. and_then r (each f m (now.line + 1) (past 10 now.rest.now))) e ∙ sym (ap (λ j. each f j now.line now.rest.now s) l) ∙ h.value;
+      rest = ap (skip m) p.rest ∙ sym (ap (λ j. skip j now.rest.now) l) ∙ h.rest;
+      line = omega (arith, p.line, h.line);
+    }
 
-  -- a line with a fault
-  pub each_fault : (e : E) → i < n → Err e ≡ f s k text → each f (n - i) k text s ≡ Err e
-  unfolding each
-  each_fault e h g =
-      let m : n - i ≡ suc (n - (i + 1)) = omega arith in
-      ap (λ j. each f j k text s) m ∙ ap (λ r. and_then r (each f (n - (i + 1)) (k + 1) (past 10 text))) (sym g)
+    -- a line with a fault
+    pub stopped : (m : ℕ) (e : E) → left ≡ suc m → Err e ≡ f s now.line now.rest.now → Err e ≡ each f n old.line old.rest.now z
+    unfolding each
+    stopped m e l g = ap (λ r. and_then r (each f m (now.line + 1) (past 10 now.rest.now))) g ∙ sym (ap (λ j. each f j now.line now.rest.now s) l) ∙ h.value
 
-  -- no line left
-  pub each_end : n ≤ i → each f (n - i) k text s ≡ Ok s
-  unfolding each
-  each_end h = let m : n - i ≡ 0 = omega arith in ap (λ j. each f j k text s) m
+    -- no line left
+    pub ended : left ≡ 0 → Ok s ≡ each f n old.line old.rest.now z
+    unfolding each
+    ended l = sym (ap (λ j. each f j now.line now.rest.now s) l) ∙ h.value
 
--- what is left before the first line
-pub skip_start : (n : ℕ) (text : List ℕ) → skip (n - 0) text ≡ skip n text
-skip_start n text = let m : n - 0 ≡ n = omega arith in ap (λ j. skip j text) m
-
--- what is left past one line more
-pub skip_more : (n i : ℕ) (text : List ℕ) → i < n → skip (n - i) text ≡ skip (n - (i + 1)) (past 10 text)
-unfolding skip
-skip_more n i text h = let m : n - i ≡ suc (n - (i + 1)) = omega arith in ap (λ j. skip j text) m
-
--- what is left past the last
-pub skip_end : (n i : ℕ) (text : List ℕ) → n ≤ i → skip (n - i) text ≡ text
-unfolding skip
-skip_end n i text h = let m : n - i ≡ 0 = omega arith in ap (λ j. skip j text) m
+    -- and the reader is past all of them
+    pub passed : left ≡ 0 → PastLines n old now
+    unfolding skip
+    passed l = record { rest = sym (ap (λ j. skip j now.rest.now) l) ∙ h.rest; line = omega (arith, h.line) }
 
 -- one line more, or a fault
 pub gate_next : (gs : List GateLine) (k : ℕ) (text : List ℕ) (g : GateLine) → Ok g ≡ gate_line k text → Ok (gs ++ g ∷ []) ≡ next_gate gs k text
@@ -70,14 +56,14 @@ gate_next gs k text g e = ap (λ r. and_then r (λ x. Ok (gs ++ x ∷ []))) e
 pub gate_stop : (gs : List GateLine) (k : ℕ) (text : List ℕ) (e : LineFault) → Err e ≡ gate_line k text → Err e ≡ next_gate gs k text
 gate_stop gs k text e h = ap (λ r. and_then r (λ x. Ok (gs ++ x ∷ []))) h
 
-module _ (cs : List ClassEntry) (i k : ℕ) (text : List ℕ) (n : length cs ≡ i) where
+module _ (cs : List ClassEntry) (c k : ℕ) (text : List ℕ) (due : 7 - length cs ≡ c) where
   -- a class line more
-  pub class_next : (x : ClassEntry) → Ok x ≡ class_line k (7 - i) text → Ok (x ∷ cs) ≡ next_class cs k text
-  class_next x e = ap (λ r. and_then r (λ y. Ok (y ∷ cs))) (e ∙ ap (λ j. class_line k (7 - j) text) (sym n))
+  pub class_next : (x : ClassEntry) → Ok x ≡ class_line k c text → Ok (x ∷ cs) ≡ next_class cs k text
+  class_next x e = ap (λ r. and_then r (λ y. Ok (y ∷ cs))) (e ∙ ap (λ j. class_line k j text) (sym due))
 
   -- a fault of a class line
-  pub class_stop : (e : PlanFault) → Err e ≡ class_line k (7 - i) text → Err e ≡ next_class cs k text
-  class_stop e h = ap (λ r. and_then r (λ y. Ok (y ∷ cs))) (h ∙ ap (λ j. class_line k (7 - j) text) (sym n))
+  pub class_stop : (e : PlanFault) → Err e ≡ class_line k c text → Err e ≡ next_class cs k text
+  class_stop e h = ap (λ r. and_then r (λ y. Ok (y ∷ cs))) (h ∙ ap (λ j. class_line k j text) (sym due))
 
 module _ (cs : List ClassEntry) (fs : List FlowEntry) (last : Place) (k : ℕ) (text : List ℕ) (p : last ≡ place_after first fs) where
   -- a flow line more
@@ -98,49 +84,9 @@ pub entries_push : (fs gs : List FlowLine) (f : FlowLine) → gs ≡ fs ++ f ∷
 entries_push fs gs f e = ap (map entry_of) e ∙ map-append entry_of fs (f ∷ [])
 
 -- one class more, in front of those behind it
-pub sizes_put : (ts : List TrafficClass) (i : ℕ) (t : TrafficClass) → length ts ≡ 8 → i < 8 → map sizes_of (drop (8 - (i + 1)) (set ts (7 - i) t)) ≡ sizes_of t ∷ map sizes_of (drop (8 - i) ts)
-sizes_put ts i t e h = ap (map sizes_of) (put_front ts i t e h)
+pub sizes_put : (ts : List TrafficClass) (i j m : ℕ) (t : TrafficClass) → length ts ≡ 8 → m ≤ 8 → j ≡ i → m ≡ i + 1 → map sizes_of (drop j (set ts i t)) ≡ sizes_of t ∷ map sizes_of (drop m ts)
+sizes_put ts i j m t e h k l = ap (map sizes_of) (drop-set_at ts i j t k (omega arith) ∙ ap (λ j. t ∷ drop j ts) (sym l))
 
--- as many classes as lines were read
-pub sizes_length : (ts : List TrafficClass) (i : ℕ) → length ts ≡ 8 → i ≤ 8 → length (map sizes_of (drop (8 - i) ts)) ≡ i
-sizes_length ts i e h = let l = length-map (drop (8 - i) ts) sizes_of in let d = length-drop (8 - i) ts in omega arith
-
--- lines that are long enough and as many as a gate list has make one exactly where their lengths add up to the cycle
-each_long : (gs : List GateLine) (i : ℕ) → AllByRecursion LengthFits gs → i < length gs → 1 ≤ (line gs i).length.0
-each_long gs i all h = (All-get_or LengthFits gs i (record { length = record { 0 = 0 }; gates = [] }) h all).0
-
--- making a gate list does the check of the sum
-pub listed_is : (cycle n : ℕ) (gs : List GateLine) (o : Option GateList) → AllByRecursion LengthFits gs → length gs ≡ n → 1 ≤ n → n ≤ most_lines → cycle ≤ most_cycle →
-    MatchOption o (Lawful gs cycle → ⊥) (λ g. (g.cycle ≡ record { 0 = cycle }) × (lines_of g ≡ gs)) →
-    map_ok lines_of (ok_or o (Sum (3 + n))) ≡ cond (eqb (total gs) cycle) (Ok gs) (Err (Sum (3 + n)))
-listed_is cycle n gs None all is some few most none =
-    sym (cond-false _ _ _ (ne_eqb (total gs) cycle (λ e. none (record { each = λ i h. each_long gs i all h; together = e; some = omega arith; few = omega arith; most = most }))))
-listed_is cycle n gs (Some g) all is some few most e =
-    let c : g.cycle.0 ≡ cycle = ap (λ x. x.0) e.0 in
-    ap Ok e.1 ∙ sym (cond-true _ _ _ (eq-eqb (total gs) cycle (ap total (sym e.1) ∙ g.lawful.together ∙ c)))
-
--- and the list has the cycle of the plan
-pub listed_cycle : (cycle : ℕ) (gs : List GateLine) (o : Option GateList) (e : PlanFault) →
-    MatchOption o (Lawful gs cycle → ⊥) (λ g. (g.cycle ≡ record { 0 = cycle }) × (lines_of g ≡ gs)) → IfOk (ok_or o e) (λ g. g.cycle.0 ≡ cycle)
-listed_cycle cycle gs None e is = tt
-listed_cycle cycle gs (Some g) e is = ap (λ x. x.0) is.0
-
--- what holds whatever is made
-pub made_any : {X Y : Type 0} (r : Result X Y) (P : Type 0) → P → IfOk r (λ _. P)
-made_any (Ok x) P h = h
-made_any (Err y) P h = tt
-
--- a text of a size that a plan may have
-pub size_low : (text : List ℕ) → length text < 1 → Err Size ≡ read_plan text
-unfolding read_plan
-size_low text h = sym (cond-false _ _ _ (and_left _ _ (lt-leb 1 (length text) h)))
-
--- too long
-pub size_high : (text : List ℕ) → most_text < length text → Err Size ≡ read_plan text
-unfolding read_plan
-size_high text h = sym (cond-false _ _ _ (and_right _ _ (lt-leb (length text) most_text h)))
-
--- of a size that a plan may have
-pub size_in : (text : List ℕ) → 1 ≤ length text → length text ≤ most_text → read_lines text ≡ read_plan text
-unfolding read_plan
-size_in text h k = sym (cond-true _ _ _ (and_from _ _ (le-leb 1 (length text) h) (le-leb (length text) most_text k)))
+-- the class that is due in front of those that are read
+pub class_due : (ts : List TrafficClass) (m : ℕ) → length ts ≡ 8 → m ≤ 8 → 7 - length (map sizes_of (drop m ts)) ≡ m - 1
+class_due ts m e h = let l = length-map (drop m ts) sizes_of in let d = length-drop m ts in omega arith

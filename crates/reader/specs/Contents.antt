@@ -17,6 +17,12 @@ pub record ClassEntry : Type 0 where
   pub largest : ℕ
   pub depth : ℕ
 
+-- what the first three lines say: the port, the cycle and the number of gate lines
+pub record Heading : Type 0 where
+  pub port : ℕ
+  pub cycle : ℕ
+  pub gates : ℕ
+
 -- the class c is the entry c of classes, and the flows stand in the order of the text
 pub record Contents : Type 0 where
   pub port : ℕ

@@ -1,6 +1,7 @@
 pub mod Chain
 pub mod Contents
 pub mod Views
+pub mod Moves
 pub mod Fields
 pub mod Entries
 pub mod Reading

@@ -9,13 +9,12 @@ use Rattle.gates.specs.Opened.{total}
 use Rattle.text.specs.declared.keys.Key.TheVariants.{Port, Cycle, Gates, Flows}
 use Rattle.text.specs.Cuts.{past}
 use Rattle.text.specs.Marks.{line_end}
-use Rattle.reader.specs.declared.lists.Header.{Header}
 use Rattle.reader.specs.Chain.{and_then, within, each, skip}
 use Rattle.reader.specs.Entries.{number_line, next_gate, next_class, next_flow}
-use Rattle.reader.specs.Contents.{Contents, ClassEntry, FlowEntry}
+use Rattle.reader.specs.Contents.{Contents, Heading, ClassEntry, FlowEntry}
 
 -- the lines 1 to 3: the port, the cycle and the number of gate lines
-unfoldable pub header_in : List ℕ → Result Header LineFault
+unfoldable pub header_in : List ℕ → Result Heading LineFault
 header_in text =
     and_then (number_line 1 Port 1 most_port text) (λ port.
     and_then (number_line 2 Cycle 1 most_cycle (past line_end text)) (λ cycle.

@@ -3,9 +3,11 @@
 
 mod entries;
 mod fields;
+mod lines;
 mod lists;
 mod parsed;
 mod reader;
+mod room;
 mod whole;
 
 pub use parsed::{Flow, FlowLine, Parsed};

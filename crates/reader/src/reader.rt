@@ -1,63 +1,17 @@
-// The reader goes forward over the caller's own text, and hands out lines and fields of it.
-ghost use Rattle.std.specs.Prelude.{◌≡◌, ◌+◌, ◌<◌};
-ghost use Rattle.text.specs.Marks.{line_end};
-ghost use Rattle.text.specs.Cuts.{before, past};
-ghost use Rattle.text.specs.Keys.{content};
-ghost use Rattle.reader.specs.Entries.{line_at, due_line};
+// A place in the caller's own text, of which lines and fields are handed out.
+ghost use Rattle.std.specs.Prelude.{◌+◌, ◌^◌, ◌<◌, length};
 
-use faults::{FieldFault, LineFault};
-use text::{Key, count, cut, value};
-
-// Its place is what is left to read, and the number of the line that comes next; over the fields of a line, that line's number.
+// What is left to read, and the number of the line that comes next. Each line takes a byte at least, so there are numbers for all of them.
 #[derive(Drop)]
 pub struct Reader<'a> {
     pub rest: &'a [u8],
     pub line: u32,
+    ghost numbers: { line + length rest.now < 2 ^ 32 },
 }
 
-impl<'a> Reader<'a> {
-    // What stands before the next `byte`, or all that is left. The reader goes on past it.
-    pub(crate) fn piece(&mut self, byte: u8) -> &'a [u8]
-        ensures value { result.now ≡ before byte self.old.rest.now }
-        ensures rest { self.new.rest.now ≡ past byte self.old.rest.now }
-        ensures line { self.new.line ≡ self.old.line }
-    {
-        let (piece, rest) = cut(self.rest, byte);
-        self.rest = rest;
-        piece
-    }
-
-    // The next line, without its byte 10. No plan has as many as a thousand lines.
-    pub(crate) fn next_line(&mut self) -> Result<&'a [u8], LineFault>
-        requires { self.old.line < 1000 }
-        ensures value { content result ≡ line_at self.old.line self.old.rest.now }
-        ensures rest { self.new.rest.now ≡ past line_end self.old.rest.now }
-        ensures line { self.new.line ≡ self.old.line + 1 }
-    {
-        let number = self.line;
-        self.line = number + 1;
-        let left = self.rest.len();
-        let line = self.piece(b'\n');
-        if line.len() < left {
-            Ok(line)
-        } else {
-            Err(LineFault::Missing(number))
-        }
-    }
-
-    // The fields of the next line, which has to have the due key and so many commas between its fields.
-    pub(crate) fn due_line(&mut self, due: Key, commas: usize) -> Result<&'a [u8], LineFault>
-        requires { self.old.line < 1000 }
-        ensures value { content result ≡ due_line self.old.line due commas self.old.rest.now }
-        ensures rest { self.new.rest.now ≡ past line_end self.old.rest.now }
-        ensures line { self.new.line ≡ self.old.line + 1 }
-    {
-        let number = self.line;
-        let line = self.next_line()?;
-        let fields = value(line, due, number)?;
-        if count(fields, b',') != commas {
-            return Err(LineFault::Field(FieldFault::Form(number)));
-        }
-        Ok(fields)
-    }
+// The fields of a line that are left to read, and the number of that line.
+#[derive(Drop)]
+pub struct Fields<'a> {
+    pub rest: &'a [u8],
+    pub line: u32,
 }

@@ -1,6 +1,6 @@
 // A plan text from its first byte to its last.
-ghost use Rattle.std.specs.Prelude.{◌≡◌, ◌≤◌, ◌⊎◌, [], Ok, Err, vec_capacity, MatchResult};
-ghost use Rattle.units.specs.Limits.{most_lines, most_flows};
+ghost use Rattle.std.specs.Prelude.{◌≡◌, ◌≤◌, ◌⊎◌, Ok, Err, length, MatchResult};
+ghost use Rattle.units.specs.Limits.{most_text};
 ghost use Rattle.faults.specs.declared.fault.PlanFault.TheVariants.{Memory};
 ghost use Rattle.reader.specs.Chain.{map_ok};
 ghost use Rattle.reader.specs.Parsed.{contents_of};
@@ -8,6 +8,7 @@ ghost use Rattle.reader.specs.Reading.{read_plan, read_lines};
 
 use crate::parsed::{FlowLine, Parsed};
 use crate::reader::Reader;
+use crate::room::Room;
 use faults::PlanFault;
 use gates::GateLine;
 use std::alloc::Global;
@@ -17,31 +18,34 @@ use units::limits::{MAX_FLOWS, MAX_GATE_LINES, MAX_TEXT};
 pub fn parse(heap: Global, text: &[u8]) -> Result<Parsed, PlanFault>
     ensures { MatchResult result (λ p. Ok (contents_of p) ≡ read_plan text.now) (λ e. (e ≡ Memory) ⊎ (Err e ≡ read_plan text.now)) }
 {
-    let lines = Vec::with_capacity(heap, MAX_GATE_LINES)?;
-    let flows = Vec::with_capacity(heap, MAX_FLOWS)?;
+    let lines = Room::new(heap)?;
+    let flows = Room::new(heap)?;
     read_text(text, lines, flows)
 }
 
-// The contents of the text, by way of two empty lists with room for it.
-fn read_text(text: &[u8], lines: Vec<GateLine>, flows: Vec<FlowLine>) -> Result<Parsed, PlanFault>
-    requires no_line { lines.items ≡ [] }
-    requires line_room { most_lines ≤ vec_capacity lines }
-    requires no_flow { flows.items ≡ [] }
-    requires flow_room { most_flows ≤ vec_capacity flows }
+// The contents of the text, in the room for its lists.
+#[tactic(auto, unfolding(crate::specs::Reading::read_plan))]
+fn read_text(
+    text: &[u8],
+    lines: Room<GateLine, MAX_GATE_LINES>,
+    flows: Room<FlowLine, MAX_FLOWS>,
+) -> Result<Parsed, PlanFault>
     ensures { map_ok contents_of result ≡ read_plan text.now }
 {
-    if text.len() < 1 || text.len() > MAX_TEXT {
+    if text.is_empty() || text.len() > MAX_TEXT {
         return Err(PlanFault::Size);
     }
     read_lines(text, lines, flows)
 }
 
 // The contents of the lines.
-fn read_lines(text: &[u8], lines: Vec<GateLine>, flows: Vec<FlowLine>) -> Result<Parsed, PlanFault>
-    requires no_line { lines.items ≡ [] }
-    requires line_room { most_lines ≤ vec_capacity lines }
-    requires no_flow { flows.items ≡ [] }
-    requires flow_room { most_flows ≤ vec_capacity flows }
+#[tactic(auto, unfolding(crate::specs::Reading::read_lines))]
+fn read_lines(
+    text: &[u8],
+    lines: Room<GateLine, MAX_GATE_LINES>,
+    flows: Room<FlowLine, MAX_FLOWS>,
+) -> Result<Parsed, PlanFault>
+    requires { length text.now ≤ most_text }
     ensures { map_ok contents_of result ≡ read_lines text.now }
 {
     let mut reader = Reader {

@@ -1,36 +1,52 @@
 -- Cutting a text, by steps.
-use Rattle.std.proofs.Common.{◌≡◌, ℕ, suc, ◌+◌, ◌-◌, ◌<◌, ◌≤◌, true, false, cond, eqb, List, [], ◌∷◌, length, get_or, take, drop, Some, sym, ap, ◌∙◌, subst, ⊎_elim, arith}
+use Rattle.std.proofs.Common.{◌≡◌, ℕ, suc, ◌+◌, ◌-◌, ◌<◌, ◌≤◌, true, false, cond, eqb, ltb, ◌||◌, List, [], ◌∷◌, length, take, drop, Some, None, position, sym, refl, ap, ◌∙◌, subst, ⊎_elim, arith}
 use Rattle.std.proofs.lemmas.Slice.Eq.{HasBytesAt}
-use Rattle.std.proofs.lemmas.List.{at_drop_more, at_drop_all, length-take-le, take_rest}
+use Rattle.std.proofs.lemmas.List.{at_drop_more, take_rest}
 use Rattle.std.proofs.lemmas.List.Sums.{sum_by-cons}
-use Rattle.std.proofs.lemmas.Bool.{cases_Bool, eq-eqb, ne_eqb, cond-true, cond-false, lt-ltb}
-use Rattle.text.specs.Cuts.{at, before, has, how_many}
+use Rattle.std.proofs.lemmas.List.Recursion.{is_position_or_len}
+use Rattle.std.specs.List.{list_any, position_or_len}
+use Rattle.std.proofs.lemmas.Bool.{cases_Bool, eq-eqb, cond-true, cond-false, lt-ltb, le-ltb, cases_lt}
+use Rattle.text.specs.Cuts.{at, has, how_many}
 use Rattle.text.specs.Keys.{strip}
 
--- a byte stands within the text, or at its end
-pub at_le : (c : ℕ) (xs : List ℕ) → at c xs ≤ length xs
-unfolding at
-at_le c [] = omega arith
-at_le c (x ∷ xs) = let h = at_le c xs in elim (eqb x c) as (λ b. cond b 0 (suc (at c xs)) ≤ suc (length xs)) [ true ↦ omega arith | false ↦ omega arith ]
+-- an order of successors
+pub ltb_suc : (m n : ℕ) → ltb (suc m) (suc n) ≡ ltb m n
+ltb_suc m n = ⊎_elim (λ (h : m < n). lt-ltb (suc m) (suc n) (omega arith) ∙ sym (lt-ltb m n h)) (λ (h : n ≤ m). le-ltb (suc m) (suc n) (omega arith) ∙ sym (le-ltb m n h)) (cases_lt m n)
 
--- a search that goes forward: the byte is here
-pub at_here : (c : ℕ) (xs : List ℕ) (i : ℕ) → i < length xs → get_or xs i 0 ≡ c → at c (drop i xs) ≡ 0
+-- a byte stands where std finds it, which answers the length of the text where it finds none
+at_position : (c : ℕ) (xs : List ℕ) → at c xs ≡ position_or_len (λ x. eqb x c) xs
 unfolding at
-at_here c xs i h e = at_drop_more (at c) xs i 0 h ∙ cond-true _ _ _ (eq-eqb _ _ e)
+at_position c xs = is_position_or_len (at c) (λ x. eqb x c) refl (λ x xs. ap (cond (eqb x c) 0) (omega arith)) xs
 
--- it is further on
-pub at_on : (c : ℕ) (xs : List ℕ) (i : ℕ) → i < length xs → (get_or xs i 0 ≡ c → ⊥) → at c (drop i xs) ≡ suc (at c (drop (i + 1) xs))
+-- so std tells it where it stands
+found_at : (c : ℕ) (xs : List ℕ) → position (λ x. eqb x c) xs ≡ cond (has c xs) (Some (at c xs)) None
+found_at c xs = ap (λ n. cond (ltb n (length xs)) (Some n) None) (sym (at_position c xs))
+
+-- a byte that std finds
+pub at_some : (c i : ℕ) (xs : List ℕ) → Some i ≡ position (λ x. eqb x c) xs → at c xs ≡ i
+at_some c i xs e =
+    ⊎_elim
+    (λ (h : at c xs < length xs). let t = cond-true _ (Some (at c xs)) None (lt-ltb _ _ h) in cc (found_at c xs))
+    (λ (h : length xs ≤ at c xs). let t = cond-false _ (Some (at c xs)) None (le-ltb _ _ h) in cc (found_at c xs))
+    (cases_lt (at c xs) (length xs))
+
+-- a byte that std does not find
+pub at_none : (c : ℕ) (xs : List ℕ) → None ≡ position (λ x. eqb x c) xs → length xs ≤ at c xs
+at_none c xs e =
+    ⊎_elim
+    (λ (h : at c xs < length xs). let t = cond-true _ (Some (at c xs)) None (lt-ltb _ _ h) in cc (found_at c xs))
+    (λ (h : length xs ≤ at c xs). h)
+    (cases_lt (at c xs) (length xs))
+
+-- a test for the byte finds it where it stands
+pub any_has : (c : ℕ) (xs : List ℕ) → list_any (λ x. eqb x c) xs ≡ has c xs
 unfolding at
-at_on c xs i h e = at_drop_more (at c) xs i 0 h ∙ cond-false _ _ _ (ne_eqb _ _ e)
-
--- there is nothing left
-pub at_end : (c : ℕ) (xs : List ℕ) (i : ℕ) → length xs ≤ i → at c (drop i xs) ≡ 0
-unfolding at
-at_end c xs i h = at_drop_all (at c) xs i h
-
--- what stands before c is shorter than the text where c stands in it
-pub shorter : (c : ℕ) (xs l : List ℕ) → l ≡ before c xs → length l < length xs → has c xs ≡ true
-shorter c xs l e h = lt-ltb _ _ (omega (arith, ap length e, length-take-le (at c xs) xs (at_le c xs)))
+any_has c [] = refl
+any_has c (x ∷ xs) =
+    elim (eqb x c) as (λ b. (b || list_any (λ y. eqb y c) xs) ≡ ltb (cond b 0 (suc (at c xs))) (suc (length xs))) [
+      | true ↦ sym (lt-ltb 0 (suc (length xs)) (omega arith))
+      | false ↦ any_has c xs ∙ sym (ltb_suc (at c xs) (length xs))
+    ]
 
 -- a front that is read byte by byte
 strip_from : (p xs : List ℕ) (i : ℕ) → i + length p ≤ length xs → HasBytesAt xs i p → Some (drop (i + length p) xs) ≡ strip p (drop i xs)

@@ -2,7 +2,6 @@
 use Rattle.std.proofs.Common.{◌≡◌, ℕ, suc, ◌+◌, ◌-◌, ◌*◌, ◌^◌, ◌<◌, ◌≤◌, Bool, true, false, cond, ◌&&◌, eqb, ltb, List, [], ◌∷◌, length, get_or, drop, Some, None, Option, sym, refl, ◌∙◌, ⊎_elim, pow-suc, add-one, arith}
 use Rattle.std.proofs.lemmas.List.{at_drop_more, at_drop_all}
 use Rattle.std.proofs.lemmas.Bool.{eq-eqb, ne_eqb, cond-true, cond-false, cases_lt, le-leb, lt-leb, and_from, and_left, and_right, lt-ltb, le-ltb}
-use native.Mathlib.Nat.{pow-le-pow_right}
 use Rattle.text.specs.Numerals.{digits_from, numeral_in}
 
 -- a loop over the digits: one digit more
@@ -28,10 +27,6 @@ digit_end n xs i h = at_drop_all (digits_from n) xs i h
 -- a number of i digits and one digit more
 pub ten_more : (n d i : ℕ) → n < 10 ^ i → d < 10 → n * 10 + d < 10 ^ (i + 1)
 ten_more n d i h k = rw (add-one, pow-suc) (omega arith)
-
--- a number of at most six digits has room for one more
-pub seven : (n i : ℕ) → n < 10 ^ i → i ≤ 6 → n < 10 ^ 6
-seven n i h k = let p : 10 ^ i ≤ 10 ^ 6 = pow-le-pow_right (omega arith) k in omega arith
 
 -- no digit
 pub numeral_empty : (xs : List ℕ) → length xs ≡ 0 → None ≡ numeral_in xs

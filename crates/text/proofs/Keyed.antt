@@ -1,14 +1,15 @@
 -- A line that begins with a key and an equals sign has that key before its first equals sign.
-use Rattle.std.proofs.Common.{◌≡◌, ℕ, suc, ◌+◌, ◌<◌, ◌≤◌, Bool, true, false, cond, ◌&&◌, eqb, ltb, List, [], ◌∷◌, ◌++◌, length, take, drop, Some, None, Ok, Err, codes, Option, sym, refl, ap, ◌∙◌, ⊎_elim, arith, rules}
+use Rattle.std.proofs.Common.{◌≡◌, ℕ, suc, ◌+◌, Bool, true, false, cond, ◌&&◌, eqb, ltb, List, [], ◌∷◌, ◌++◌, length, take, drop, Some, None, Ok, Err, codes, Option, sym, refl, ap, ◌∙◌, ⊎_elim, arith, rules}
 use Rattle.std.specs.Str.{bytes_eq}
-use Rattle.std.specs.List.{AllByRecursion}
-use Rattle.std.proofs.lemmas.Bool.{cases_Bool, eqb-true, ne_eqb, cond-true, cond-false, lt-ltb, le-ltb, cases_lt}
+use Rattle.std.specs.List.{list_any, AllByRecursion}
+use Rattle.std.proofs.lemmas.Bool.{cases_Bool, eqb-true, ne_eqb, cond-true, cond-false, lt-ltb}
 use Rattle.faults.specs.declared.fault.LineFault.TheVariants.{Missing}
 use Rattle.faults.specs.declared.fault.LineFault.TheVariants as fault
 use Rattle.text.specs.declared.keys.Key.{Key}
 use Rattle.text.specs.declared.keys.Key.TheVariants.{Port, Cycle, Gates, Gate, Class, Flows, Flow}
 use Rattle.text.specs.Cuts.{at, before, past, has}
 use Rattle.text.specs.Keys.{key, word, strip, value_in}
+use Rattle.text.proofs.Cutting.{ltb_suc, any_has}
 
 -- the key before an equals sign at n, and what is past it
 abbrev cut_as : List ℕ → List ℕ → ℕ → Option (List ℕ)
@@ -18,10 +19,6 @@ cut_as k xs n = cond (ltb n (length xs)) (cond (bytes_eq (take n xs) k) (Some (d
 none_both : (b : Bool) → None ≡ cond {A = Option (List ℕ)} b None None
 none_both true = refl
 none_both false = refl
-
--- an order of successors
-ltb_suc : (m n : ℕ) → ltb (suc m) (suc n) ≡ ltb m n
-ltb_suc m n = ⊎_elim (λ (h : m < n). lt-ltb (suc m) (suc n) (omega arith) ∙ sym (lt-ltb m n h)) (λ (h : n ≤ m). le-ltb (suc m) (suc n) (omega arith) ∙ sym (le-ltb m n h)) (cases_lt m n)
 
 -- two tests in the other order
 nest : (b e s : Bool) (r : Option (List ℕ)) → cond e (cond b (cond s r None) None) None ≡ cond b (cond (e && s) r None) None
@@ -84,10 +81,6 @@ value_some k due xs v e = some_way k (has 61 xs) (bytes_eq (before 61 xs) (key d
 value_none : (k : ℕ) (due : Key) (xs : List ℕ) → None ≡ strip (word due) xs → Err (cond (has 61 xs) (fault.Key k) (Missing k)) ≡ value_in k due xs
 value_none k due xs e = none_way k (has 61 xs) (bytes_eq (before 61 xs) (key due)) (past 61 xs) (e ∙ word_key due xs)
 
--- a line with an equals sign and another key
-pub value_key : (k : ℕ) (due : Key) (xs : List ℕ) → None ≡ strip (word due) xs → at 61 xs < length xs → Err (fault.Key k) ≡ value_in k due xs
-value_key k due xs e h = ap Err (sym (cond-true _ _ _ (lt-ltb _ _ h))) ∙ value_none k due xs e
-
--- a line without an equals sign
-pub value_missing : (k : ℕ) (due : Key) (xs : List ℕ) → None ≡ strip (word due) xs → length xs ≤ at 61 xs → Err (Missing k) ≡ value_in k due xs
-value_missing k due xs e h = ap Err (sym (cond-false _ _ _ (le-ltb _ _ h))) ∙ value_none k due xs e
+-- the same, as the test for an equals sign tells it
+pub value_fault : (k : ℕ) (due : Key) (xs : List ℕ) (b : Bool) → None ≡ strip (word due) xs → list_any (λ x. eqb x 61) xs ≡ b → Err (cond b (fault.Key k) (Missing k)) ≡ value_in k due xs
+value_fault k due xs b none e = ap (λ b. Err (cond b (fault.Key k) (Missing k))) (sym e ∙ any_has 61 xs) ∙ value_none k due xs none

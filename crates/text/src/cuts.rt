@@ -1,50 +1,29 @@
 // A text is cut where a byte first stands.
-ghost use Rattle.std.specs.Prelude.{◌≡◌, ◌+◌, ◌≤◌, length, drop};
-ghost use Rattle.text.specs.Cuts.{at, before, past, how_many};
+ghost use Rattle.std.specs.Prelude.{◌≡◌, ◌==◌, position};
+ghost use Rattle.text.specs.Cuts.{before, past, how_many};
 
 // What stands before the first `byte` and what stands past it. Without one, all of the text and nothing.
 pub fn cut<'a>(text: &'a [u8], byte: u8) -> (&'a [u8], &'a [u8])
     ensures before { result.0.now ≡ before byte text.now }
     ensures past { result.1.now ≡ past byte text.now }
 {
-    let place = find(text, byte);
-    (&text[0..place], after(text, place))
+    match find(text, byte) {
+        Some(place) => (&text[..place], &text[place + 1..]),
+        None => (text, &[]),
+    }
 }
 
 // How often `byte` stands in the text.
+#[tactic(auto, unfolding(crate::specs::Cuts::how_many))]
 pub fn count(text: &[u8], byte: u8) -> usize
     ensures { result ≡ how_many byte text.now }
 {
-    let mut n: usize = 0;
-    for x in text {
-        if *x == byte {
-            n += 1;
-        }
-    }
-    n
+    text.iter().filter(|x| **x == byte).count()
 }
 
-// Where `byte` first stands, or the length of the text.
-fn find(text: &[u8], byte: u8) -> usize
-    ensures value { result ≡ at byte text.now }
-    ensures bound { result ≤ length text.now }
+// Where `byte` first stands, if it does.
+fn find(text: &[u8], byte: u8) -> Option<usize>
+    ensures { result ≡ position (λ x. x == byte) text.now }
 {
-    for (i, x) in text.iter().enumerate() {
-        if *x == byte {
-            return i;
-        }
-    }
-    text.len()
-}
-
-// What stands past the byte at `place`.
-fn after(text: &[u8], place: usize) -> &[u8]
-    requires { place ≤ length text.now }
-    ensures { result.now ≡ drop (place + 1) text.now }
-{
-    if place < text.len() {
-        &text[place + 1..]
-    } else {
-        &text[place..]
-    }
+    text.iter().position(|x| *x == byte)
 }

@@ -12,9 +12,8 @@ use Rattle.gates.specs.Sizes.{Sized}
 use Rattle.text.specs.declared.keys.Key.TheVariants as key
 use Rattle.text.specs.Cuts.{past}
 use Rattle.reader.specs.declared.parsed.Place.{Place}
-use Rattle.reader.specs.declared.lists.Header.{Header}
 use Rattle.reader.specs.Chain.{within, each, skip}
-use Rattle.reader.specs.Contents.{Contents, FlowEntry, ClassEntry}
+use Rattle.reader.specs.Contents.{Contents, Heading, FlowEntry, ClassEntry}
 use Rattle.reader.specs.Views.{entry_place}
 use Rattle.reader.specs.Entries.{number_line, gate_line, class_line, flow_line, first, place_after, next_gate, next_class, next_flow}
 use Rattle.reader.specs.Reading.{header_in, gates_listed, classes_listed, flows_listed, read_lines, read_plan}
@@ -121,7 +120,7 @@ flows_back cs k text fs e =
     (b.0 ∙ (λ i. number_text key.Flows (long i) ++ lines i), let most = b.2 in omega arith, r.2 tt)
 
 -- the first three lines
-header_back : (text : List ℕ) (h : Header) → header_in text ≡ Ok h →
+header_back : (text : List ℕ) (h : Heading) → header_in text ≡ Ok h →
     (text ≡ number_text key.Port h.port ++ (number_text key.Cycle h.cycle ++ (number_text key.Gates h.gates ++ skip 3 text)))
     × (1 ≤ h.port) × (h.port ≤ most_port) × (h.cycle ≤ most_cycle) × (1 ≤ h.gates) × (h.gates ≤ most_lines)
 unfolding header_in skip
@@ -132,7 +131,7 @@ header_back text h e =
     let a = number_line_back 1 key.Port 1 most_port p.0 text p.1 in
     let b = number_line_back 2 key.Cycle 1 most_cycle q.0 (past 10 text) q.1 in
     let c = number_line_back 3 key.Gates 1 most_lines r.0 (past 10 (past 10 text)) r.1 in
-    let said : Header → Type 0 = λ x.
+    let said : Heading → Type 0 = λ x.
     (text ≡ number_text key.Port x.port ++ (number_text key.Cycle x.cycle ++ (number_text key.Gates x.gates ++ skip 3 text)))
     × (1 ≤ x.port) × (x.port ≤ most_port) × (x.cycle ≤ most_cycle) × (1 ≤ x.gates) × (x.gates ≤ most_lines) in
     subst said (ok_ok r.2)
@@ -142,11 +141,11 @@ header_back text h e =
 lawful : (gs : List GateLine) (cycle : ℕ) → AllByRecursion GateFits gs → total gs ≡ cycle → 1 ≤ length gs → length gs ≤ most_lines → cycle ≤ most_cycle → Lawful gs cycle
 lawful gs cycle fit sum some few most = record { each = λ i h. (All-get_or GateFits gs i _ h fit).0; together = sum; some = some; few = few; most = most }
 
-abbrev contents_with : Header → List GateLine → List ClassEntry → List FlowEntry → Contents
+abbrev contents_with : Heading → List GateLine → List ClassEntry → List FlowEntry → Contents
 contents_with h gs cs fs = record { port = h.port; cycle = h.cycle; gates = gs; classes = cs; flows = fs }
 
 -- the parts of a text that is read, put together
-whole : (text : List ℕ) (h : Header) (gs : List GateLine) (cs : List ClassEntry) (fs : List FlowEntry) →
+whole : (text : List ℕ) (h : Heading) (gs : List GateLine) (cs : List ClassEntry) (fs : List FlowEntry) →
     header_in text ≡ Ok h → gates_listed h.cycle h.gates (skip 3 text) ≡ Ok gs → classes_listed (4 + h.gates) (skip h.gates (skip 3 text)) ≡ Ok cs →
     flows_listed cs (12 + h.gates) (skip classes (skip h.gates (skip 3 text))) ≡ Ok fs → Sound (contents_with h gs cs fs) × (text ≡ write (contents_with h gs cs fs))
 unfolding write

@@ -9,5 +9,4 @@ pub fn reading_inverts_writing()
     ensures only { OnlyTexts }
     ensures every { EveryPlan }
     ensures short { ShortTexts }
-{
-}
+{}

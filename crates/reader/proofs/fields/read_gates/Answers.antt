@@ -1,14 +1,8 @@
-use Rattle.std.proofs.Common.{◌+◌, ◌-◌, drop, sym, refl, ap, ◌∙◌, arith, rules}
+use Rattle.std.proofs.Common.{◌+◌, ◌-◌, drop, sym, ap, ◌∙◌, arith, rules}
 use Rattle.reader.specs.Fields.{letters_from}
-use Rattle.reader.proofs.Checked.{letter_open, letter_shut, letter_other, letters_end, gates_short, gates_are}
+use Rattle.reader.proofs.Checked.{letter_open, letter_shut, letter_other, letters_end, gates_are}
 use Rattle.reader.proofs.fields.read_gates.Goals as goal
 use Rattle.reader.proofs.fields.read_gates.Goals.{in-O, in-C}
-
-pub returns-then-text-ne8 : goal.returns-then-text-ne8
-returns-then-text-ne8 c = gates_short _ _ c.if-text-ne8.true
-
-pub loop-i-init : goal.loop-i-init
-loop-i-init c = (refl, refl)
 
 pub returns-in_default : goal.returns-in_default
 returns-in_default c =

@@ -1,13 +1,12 @@
-use Rattle.std.proofs.Common.{arith}
-use Rattle.text.proofs.Cutting.{counted_has, none_counted}
-use Rattle.text.proofs.Keyed.{value_some, value_key, value_missing}
+use Rattle.std.proofs.Common.{sym, ◌∙◌}
+use Rattle.text.proofs.Keyed.{value_some, value_fault}
 use Rattle.text.proofs.keys.value.Goals as goal
 
 pub returns-in-Some : goal.returns-in-Some
 returns-in-Some c = value_some _ c.args.due c.args.line.now _ c.in-Some.ensures
 
 pub returns-in-None : goal.returns-in-None
-returns-in-None c = value_key _ c.args.due c.args.line.now c.in-None.ensures (counted_has 61 c.args.line.now (omega (arith, c.count.ensures)))
+returns-in-None c = value_fault _ c.args.due c.args.line.now _ c.in-None.ensures (sym c.contains.ensures.value ∙ c.if-contains.true)
 
 pub returns-in-None-2 : goal.returns-in-None-2
-returns-in-None-2 c = value_missing _ c.args.due c.args.line.now c.in-None.ensures (none_counted 61 c.args.line.now (omega (arith, c.count.ensures)))
+returns-in-None-2 c = value_fault _ c.args.due c.args.line.now _ c.in-None.ensures (sym c.contains.ensures.value ∙ c.if-contains.false)

@@ -1,13 +1,7 @@
 use Rattle.std.proofs.Common.{◌+◌, drop, sym, ap, ◌∙◌, arith}
 use Rattle.text.specs.Numerals.{digits_from}
-use Rattle.text.proofs.Digit.{digit_on, digit_low, digit_high, digit_end, ten_more, seven}
+use Rattle.text.proofs.Digit.{digit_on, digit_low, digit_high, digit_end, ten_more}
 use Rattle.text.proofs.numerals.digits.Goals as goal
-
-pub overflow_mul-n : goal.overflow_mul-n
-overflow_mul-n c = omega (arith, seven c.loop-b.n c.loop-b.b-index c.loop-b.invariant.1 (omega arith))
-
-pub overflow_add-n : goal.overflow_add-n
-overflow_add-n c = omega (arith, seven c.loop-b.n c.loop-b.b-index c.loop-b.invariant.1 (omega arith))
 
 pub returns-in_default : goal.returns-in_default
 returns-in_default c = sym (digit_low c.loop-b.n c.args.text.now c.loop-b.b-index c.loop-b-test.true (omega arith)) ∙ c.loop-b.invariant.0
