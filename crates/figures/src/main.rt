@@ -6,10 +6,8 @@ mod class_figures;
 
 use anyhow::{Context, anyhow};
 use class_figures::ClassFigures;
-use faults::PlanFault;
 use plan::Plan;
 use plan_input::{read_input, read_plan};
-use std::io;
 
 fn main(rt: HostRuntime) -> anyhow::Result<()> {
     run(&rt)
@@ -20,7 +18,7 @@ fn run(rt: &HostRuntime) -> anyhow::Result<()> {
     match read_plan(rt.alloc(), text.as_slice()) {
         Ok(plan) => print_plan(rt, &plan),
         Err(fault) => {
-            print_fault(rt, fault)?;
+            println!(rt; "{fault}")?;
             Err(anyhow!("the plan is refused"))
         }
     }
@@ -34,13 +32,4 @@ fn print_plan(rt: &HostRuntime, plan: &Plan) -> anyhow::Result<()> {
         println!(rt; "{figures}")?;
     }
     Ok(())
-}
-
-fn print_fault(rt: &HostRuntime, fault: PlanFault) -> io::Result<()> {
-    let number = fault.refusal().number();
-    let line = fault.line();
-    let layer = fault.layer();
-    println!(rt; "refused={number}")?;
-    println!(rt; "line={line}")?;
-    println!(rt; "layer={layer}")
 }

@@ -6,6 +6,7 @@ use anyhow::Context;
 use plan::Plan;
 use std::alloc::{AllocError, Global};
 use std::iter;
+use units::Refusal;
 
 fn main(rt: HostRuntime) -> anyhow::Result<()> {
     run(&rt)
@@ -123,7 +124,7 @@ fn answer_to(heap: Global, plan: &mut Plan, text: &[u8]) -> Result<String, Alloc
     match plan.read(text) {
         Ok(()) => String::from_str(heap, "read"),
         Err(fault) => {
-            let number = fault.refusal().number();
+            let number = Refusal::from(fault).number();
             let line = fault.line();
             let layer = fault.layer();
             format!(in heap; "{number} {line} {layer}")

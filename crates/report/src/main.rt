@@ -2,7 +2,6 @@
 #![tactic(auto)]
 
 use anyhow::anyhow;
-use faults::PlanFault;
 use plan::Plan;
 use plan_input::{read_input, read_plan};
 use std::io;
@@ -19,7 +18,7 @@ fn run(rt: &HostRuntime) -> anyhow::Result<()> {
             Ok(())
         }
         Err(fault) => {
-            print_fault(rt, fault)?;
+            println!(rt; "{fault}")?;
             Err(anyhow!("the plan is refused"))
         }
     }
@@ -32,13 +31,4 @@ fn print_plan(rt: &HostRuntime, plan: &Plan) -> io::Result<()> {
         println!(rt; "class={class}")?;
     }
     Ok(())
-}
-
-fn print_fault(rt: &HostRuntime, fault: PlanFault) -> io::Result<()> {
-    let number = fault.refusal().number();
-    let line = fault.line();
-    let layer = fault.layer();
-    println!(rt; "refused={number}")?;
-    println!(rt; "line={line}")?;
-    println!(rt; "layer={layer}")
 }
