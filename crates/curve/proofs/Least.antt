@@ -70,6 +70,17 @@ module _ (L : ℕ) (pos : 0 < L) (ss : List Slot) where
   pub least_most : (d : ℕ) → least_covered L ss d ≤ d
   least_most d = let a = least_below d 0 in let b = count_le (covered L ss) 0 d in omega arith
 
+  -- so it goes too for what is left of the least above a number
+  module _ (block : ℕ) where
+    pub above_none : least_covered L ss 0 - block ≡ 0
+    above_none = let n = least_none in omega arith
+
+    pub above_rises : (d : ℕ) → least_covered L ss d - block ≤ least_covered L ss (d + 1) - block
+    above_rises d = let r = least_rises d in omega (arith, r.0)
+
+    pub above_slow : (d : ℕ) → least_covered L ss (d + 1) - block ≤ least_covered L ss d - block + 1
+    above_slow d = let r = least_rises d in omega (arith, r.1)
+
 -- without slots the least is 0
 pub least_empty : (L : ℕ) → 0 < L → (ss : List Slot) (d : ℕ) → length ss ≡ 0 → least_covered L ss d ≡ 0
 least_empty L pos [] d e = let a = least_below L pos [] d 0 in let b = none_covered L 0 d in omega arith

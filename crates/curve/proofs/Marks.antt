@@ -241,6 +241,12 @@ table_firsts L (s ∷ ss) v j h =
     let m = marks_beside L b 0 (s ∷ ss) (mark (L + (b - b)) n) (marks_of b L (n + s.length.0) ss ++ (mark (L + L) (n + n) ∷ [])) c (omega arith) (omega arith) j h in
     rw add-one (m.0, m.1, omega (arith, m.2))
 
+-- the first mark of the table has no tick before it
+pub table_first : (L : ℕ) (ss : List Slot) → before_of (table_of L ss) 0 ≡ 0
+unfolding table_of marks_of
+table_first L [] = let z = lengths_nil in omega arith
+table_first L (s ∷ ss) = refl
+
 -- the last mark of the table is at the end of the second cycle, with the lengths of two cycles before it
 pub table_last : (L : ℕ) (ss : List Slot) → get_or (table_of L ss) (length ss + length ss) (mark 0 0) ≡ mark (L + L) (lengths ss + lengths ss)
 unfolding table_of

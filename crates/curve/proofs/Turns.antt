@@ -3,6 +3,7 @@ use Rattle.std.proofs.Common.{◌≡◌, ℕ, zero, suc, ◌+◌, ◌-◌, ◌<�
 use Rattle.std.specs.List.{AllByRecursion}
 use Rattle.std.proofs.ByRecursion.{All-get_or, All-weaker, All-more}
 use Rattle.std.proofs.lemmas.Bool.{cases_lt}
+use Rattle.units.specs.Limits.{most_cycle}
 use Rattle.calculus.specs.Searches.{count}
 use Rattle.calculus.proofs.Counts.{count_split, count_le, count_grows}
 use Rattle.sure_ticks.specs.declared.slot.Slot.{Slot}
@@ -10,11 +11,12 @@ use Rattle.sure_ticks.specs.Slots.{slot}
 use Rattle.sure_ticks.specs.Sure.{covered, lengths}
 use Rattle.sure_ticks.specs.Laws.{next, Apart}
 use Rattle.sure_ticks.proofs.Covered.{Fit}
+use Rattle.sure_ticks.proofs.Sums.{lengths_most}
 use Rattle.sure_ticks.proofs.Apart.{Chain, chain_of, next_le, apart_fit}
 use Rattle.curve.specs.declared.mark.Mark.{Mark}
 use Rattle.curve.specs.Table.{mark, place_of, before_of, Ready}
 use Rattle.curve.proofs.Sliding.{end_of}
-use Rattle.curve.proofs.Marks.{from_first, Stretches, FirstMarks, table_length, table_stretches, table_firsts, table_last}
+use Rattle.curve.proofs.Marks.{from_first, Stretches, FirstMarks, table_length, table_stretches, table_firsts, table_first, table_last}
 
 -- each slot fits its cycle
 pub slot_fits : (L : ℕ) (ss : List Slot) (i : ℕ) (x : Slot) → Apart L ss → i < length ss → Fit L (get_or ss i x)
@@ -28,14 +30,6 @@ chain_ends L limit (s ∷ ss) c = let n = next_le L limit ss c.3 in (omega arith
 -- each slot ends by the time the first begins again
 slots_end : (L : ℕ) (ss : List Slot) → Apart L ss → AllByRecursion (λ s. end_of s ≤ next 0 ss + L) ss
 slots_end L ss v = chain_ends L (next 0 ss + L) ss (chain_of L (next 0 ss + L) ss v)
-
--- where f has not come to x, which it does at the last of n, there are more
-pub not_last : (f : ℕ → ℕ) (n k x : ℕ) → k + 1 < n → f (k + 1) < x → x ≤ f (n - 1) → k + 1 + 1 < n
-not_last f n k x h low high =
-    elim (cases_lt (k + 1 + 1) n) [
-      | inl l ↦ l
-      | inr g ↦ absurd (let e : f (k + 1) ≡ f (n - 1) = ap f (omega arith) in omega arith)
-    ]
 
 -- windows of d ticks from the ends of the first slots on: one slot more, and a least that is no more
 pub ends_more : (L : ℕ) (ss : List Slot) (d i best less : ℕ) (x : Slot) → i < length ss → less ≤ best → less ≤ count (covered L ss) (end_of (get_or ss i x)) d →
@@ -57,6 +51,20 @@ ends_wider L ss y i far wide x h l here a =
 abbrev pub end_place : List Mark → ℕ → ℕ
 end_place ms j = place_of ms j + (before_of ms (j + 1) - before_of ms j)
 
+-- The slot s has the number j. It begins no earlier than the first slot, ends at its place from there on, and has a tick; its ticks
+-- come between its mark and the next one. They are at most all the sure ticks, and these no more than a cycle has
+pub record Turn (L : ℕ) (ss : List Slot) (ms : List Mark) (j : ℕ) (s : Slot) : Type 0 where
+  pub begins : next 0 ss ≤ s.begin.0
+  pub ends : s.begin.0 - next 0 ss + s.length.0 ≡ end_place ms j
+  pub done : before_of ms j + s.length.0 ≡ before_of ms (j + 1)
+  pub some : place_of ms j < end_place ms j
+  pub less : before_of ms j ≤ before_of ms (j + 1)
+  pub few : before_of ms (j + 1) ≤ lengths ss
+  pub ahead : end_place ms j ≤ place_of ms (j + 1)
+  pub inside : end_place ms j ≤ L
+  pub short : L ≤ most_cycle
+  pub all : lengths ss ≤ L
+
 -- slots with their table
 module _ (L : ℕ) (ss : List Slot) (ms : List Mark) (r : Ready L ss ms) where
   -- how many marks there are
@@ -70,6 +78,10 @@ module _ (L : ℕ) (ss : List Slot) (ms : List Mark) (r : Ready L ss ms) where
   -- the marks of the slots
   first_marks : FirstMarks ss ms
   first_marks = subst (FirstMarks ss) (sym r.table) (table_firsts L ss r.apart)
+
+  -- the first mark has no tick before it
+  pub first_before : before_of ms 0 ≡ 0
+  first_before = ap (λ xs. before_of xs 0) r.table ∙ table_first L ss
 
   -- the last mark
   last_mark : get_or ms (length ms - 1) (mark 0 0) ≡ mark (L + L) (lengths ss + lengths ss)
@@ -93,6 +105,26 @@ module _ (L : ℕ) (ss : List Slot) (ms : List Mark) (r : Ready L ss ms) where
       let f = first_marks j h in
       let t = All-get_or (λ s. end_of s ≤ next 0 ss + L) ss j (slot 0 0) h (slots_end L ss r.apart) in
       (g.1, f.2, omega (arith, g.0, g.1, g.2), omega (arith, f.0, f.1))
+
+  -- what a turn of a loop over the slots reads off the slot j
+  pub turn : (j : ℕ) → j < length ss → Turn L ss ms j (get_or ss j (slot 0 0))
+  turn j h =
+      let f = first_marks j h in
+      let b = slot_marks j h in
+      let s = slot_fits L ss j (slot 0 0) r.apart h in
+      let l = lengths_most L ss r.apart in
+      record {
+        begins = omega (arith, f.0);
+        ends = omega (arith, f.0, f.1);
+        done = omega (arith, f.1);
+        some = omega (arith, s.1);
+        less = b.0;
+        few = b.1;
+        ahead = b.2;
+        inside = b.3;
+        short = r.short;
+        all = l;
+      }
 
   -- the count at a place between two marks
   count_between : (k x : ℕ) → k + 1 < length ms → place_of ms k ≤ x → x ≤ place_of ms (k + 1) → from_first L ss x ≡ min (before_of ms k + (x - place_of ms k)) (before_of ms (k + 1))

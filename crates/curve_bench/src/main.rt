@@ -38,10 +38,15 @@ fn answer(rt: &HostRuntime, plan: &Plan, line: &str) -> anyhow::Result<()> {
     let mut words = line.split(' ');
     let kind = words.next().context("a line has a kind")?;
     let count = words.next().context("a line has a count")?.parse::<u64>()?;
+    let service = ClassService::of(plan, CLASS)
+        .ok()
+        .context("there is no such class")?;
     let sums = match kind {
-        "curve" => sum_of_curve(plan, count),
-        "inverse" => sum_of_inverse(plan, count),
-        "make" => sum_of_made(plan, count),
+        "curve" => sum_of(count, |query| Ok(service.at(span_of(query))?.0)),
+        "inverse" => sum_of(count, |query| Ok(least_span(&service, query))),
+        "make" => sum_of(count, |query| {
+            Ok(ClassService::of(plan, CLASS)?.at(span_of(query))?.0)
+        }),
         _ => return Err(anyhow!("a kind is curve, inverse or make")),
     };
     let sum = sums.ok().context("a query is refused")?;
@@ -89,33 +94,18 @@ fn bytes_of(query: u64) -> Bytes {
     Bytes(query.wrapping_mul(STEP) % (MAX_BYTES + 1))
 }
 
-// What the curve has in the spans of so many queries, together.
-fn sum_of_curve(plan: &Plan, count: u64) -> Result<u64, Refusal> {
-    let service = ClassService::of(plan, CLASS)?;
-    let mut sum = 0u64;
-    for i in 0..count {
-        sum = sum.wrapping_add(service.at(span_of(i))?.0);
-    }
-    Ok(sum)
+// The least span that a query of the inverse finds; where there is none it counts as 0.
+fn least_span(service: &ClassService, query: u64) -> u64 {
+    service.least_span(bytes_of(query)).map_or(0, |span| span.0)
 }
 
-// The least spans that so many queries of the inverse find, together; where there is none it counts as 0.
-fn sum_of_inverse(plan: &Plan, count: u64) -> Result<u64, Refusal> {
-    let service = ClassService::of(plan, CLASS)?;
+// The answers to so many queries, together.
+fn sum_of<A: Fn(u64) -> Result<u64, Refusal>>(count: u64, answer: A) -> Result<u64, Refusal>
+    requires { A.IsAlwaysCallable answer }
+{
     let mut sum = 0u64;
-    for i in 0..count {
-        let span = service.least_span(bytes_of(i)).unwrap_or(Ticks(0));
-        sum = sum.wrapping_add(span.0);
-    }
-    Ok(sum)
-}
-
-// The same as for the curve, with a service made for each query.
-fn sum_of_made(plan: &Plan, count: u64) -> Result<u64, Refusal> {
-    let mut sum = 0u64;
-    for i in 0..count {
-        let service = ClassService::of(plan, CLASS)?;
-        sum = sum.wrapping_add(service.at(span_of(i))?.0);
+    for query in 0..count {
+        sum = sum.wrapping_add(answer(query)?);
     }
     Ok(sum)
 }

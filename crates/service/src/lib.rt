@@ -3,7 +3,6 @@
 
 mod calls;
 mod class_service;
-mod search;
 mod table;
 
 pub use calls::curve;

@@ -1,6 +1,6 @@
 // Making the service of a class, and what it supplies.
-ghost use Rattle.std.specs.Prelude.{◌≡◌, ℕ, ◌+◌, ◌*◌, ◌<◌, ◌≤◌, MatchResult};
-ghost use Rattle.units.specs.declared.refusal.Refusal.TheVariants.{NoClass};
+ghost use Rattle.std.specs.Prelude.{⊤, ◌≡◌, ℕ, ◌+◌, ◌*◌, ◌≤◌};
+ghost use Rattle.units.specs.Classes.{ByClass};
 ghost use Rattle.curve.specs.Table.{table_of};
 ghost use Rattle.plan.specs.PlanContents.{contents};
 ghost use Rattle.slots.specs.Listed.{items};
@@ -9,11 +9,10 @@ ghost use Rattle.service.specs.ServiceLaws.{service_laws};
 ghost use Rattle.service.specs.CurveOfPlan.{curve_of};
 
 use crate::class_service::ClassService;
-use crate::search::{first_with, least_in};
-use crate::table::{MAX_MARKS, set_table};
-use curve::Mark;
+use crate::table::table;
 use plan::Plan;
 use slots::{SlotList, block, sure};
+use std::alloc::AllocError;
 use supply::Supply;
 use units::limits::MAX_SPAN;
 use units::{Bytes, Refusal, Ticks};
@@ -21,18 +20,13 @@ use units::{Bytes, Refusal, Ticks};
 impl ClassService {
     // The service of a class of a plan. Refused where there is no such class.
     pub fn of(plan: &Plan, class: u8) -> Result<ClassService, Refusal>
-        ensures { MatchResult result (λ s. (class ≤ 7) × ((n : ℕ) → served_by s.cycle.0 (items s.slots) s.block.0 n ≡ curve_of (contents plan.now) class n)) (λ e. (7 < class) × (e ≡ NoClass)) }
+        ensures { ByClass class result (λ s. (n : ℕ) → served_by s.cycle.0 (items s.slots) s.block.0 n ≡ curve_of (contents plan.now) class n) }
     {
         let slots = SlotList::of(plan, class)?;
         let sure_ticks = sure(plan, class)?;
         let blocking = block(plan, class)?;
         let cycle = plan.gates().cycle();
-        let none = Mark {
-            place: Ticks(0),
-            before: Ticks(0),
-        };
-        let mut marks = [none; MAX_MARKS];
-        set_table(&mut marks, cycle.0, slots.as_slice(), sure_ticks.0);
+        let marks = table(cycle.0, slots.as_slice(), sure_ticks.0);
         Ok(ClassService {
             cycle,
             sure: sure_ticks,
@@ -41,19 +35,29 @@ impl ClassService {
             marks,
         })
     }
+}
 
-    // The marks that are in use.
-    fn marks(&self) -> &[Mark]
-        ensures { result.now ≡ table_of self.now.cycle.0 (items self.now.slots) }
-    {
-        &self.marks[..2 * self.slots.len() + 1]
+// Another service that supplies the same. It cannot fail. It is by hand, since a struct with a ghost field derives none.
+impl Clone for ClassService {
+    ghost is_clone = { λ s t. (t.cycle ≡ s.cycle) × (t.sure ≡ s.sure) × (t.block ≡ s.block) × (items t.slots ≡ items s.slots) × (t.marks.items ≡ s.marks.items) };
+
+    ghost is_infallible = { λ _. ⊤ };
+
+    fn clone(&self) -> Result<Self, AllocError> {
+        Ok(ClassService {
+            cycle: self.cycle,
+            sure: self.sure,
+            block: self.block,
+            slots: self.slots.clone()?,
+            marks: self.marks.clone()?,
+        })
     }
 }
 
 impl Supply for ClassService {
     ghost supplied = { λ s. served_by s.cycle.0 (items s.slots) s.block.0 };
 
-    ghost keeps = { service_laws (λ s. s.cycle.0) (λ s. items s.slots) (λ s. s.block.0) (λ s. s.some) };
+    ghost keeps = { service_laws (λ s. s.cycle.0) (λ s. items s.slots) (λ s. s.block.0) (λ s. s.ready.some) };
 
     // The curve at a span: whole cycles add their sure ticks, and the rest is looked up.
     fn at(&self, span: Ticks) -> Result<Bytes, Refusal> {
@@ -62,7 +66,7 @@ impl Supply for ClassService {
         }
         let whole = span.0 / self.cycle.0;
         let rest = span.0 % self.cycle.0;
-        let least = least_in(self.cycle.0, self.slots.as_slice(), self.marks(), rest);
+        let least = self.least_in(rest);
         let ticks = whole * self.sure.0 + least;
         Ok(Bytes(ticks.saturating_sub(self.block.0)))
     }
@@ -78,7 +82,7 @@ impl Supply for ClassService {
         let ticks = bytes.0 + self.block.0;
         let whole = (ticks - 1) / self.sure.0;
         let rest = ticks - whole * self.sure.0;
-        let first = first_with(self.cycle.0, self.slots.as_slice(), self.marks(), rest);
+        let first = self.first_with(rest);
         let span = whole * self.cycle.0 + first;
         if span > MAX_SPAN {
             return None;

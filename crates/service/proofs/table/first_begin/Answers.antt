@@ -1,23 +1,17 @@
-use Rattle.std.proofs.Common.{◌≡◌, ◌<◌, List, [], ◌∷◌, length, get_or, refl, arith}
+use Rattle.std.proofs.Common.{◌≡◌, ℕ, List, [], ◌∷◌, Option, None, Some, Bor, rules}
+use Rattle.std.specs.Option.{MatchOption, option_copied}
+use Rattle.std.specs.List.{slice_get}
 use Rattle.sure_ticks.specs.declared.slot.Slot.{Slot}
-use Rattle.sure_ticks.specs.Slots.{slot}
 use Rattle.sure_ticks.specs.Laws.{next}
 use Rattle.service.proofs.table.first_begin.Goals as goal
 
--- no slot
-none : (ss : List Slot) → length ss ≡ 0 → 0 ≡ next 0 ss
+-- what is read off the first slot, if there is one
+first_is : (ss : List Slot) (o : Option (Bor Slot)) (n : ℕ) → option_copied o ≡ slice_get ss 0 → MatchOption o (n ≡ 0) (λ s. n ≡ s.now.begin.0) → n ≡ next 0 ss
 unfolding next
-none [] e = refl
-none (s ∷ ss) e = absurd (omega arith)
-
--- some
-some : (ss : List Slot) → 0 < length ss → (get_or ss 0 (slot 0 0)).begin.0 ≡ next 0 ss
-unfolding next
-some [] lt = absurd (omega arith)
-some (s ∷ ss) lt = refl
-
-pub returns-then-slots-eq0 : goal.returns-then-slots-eq0
-returns-then-slots-eq0 c = none c.args.slots.now c.if-slots-eq0.true
+first_is [] None n e h = h
+first_is [] (Some x) n e h = cc
+first_is (s ∷ ss) None n e h = cc
+first_is (s ∷ ss) (Some x) n e h = cc
 
 pub returns : goal.returns
-returns c = some c.args.slots.now (omega (arith, c.if-slots-eq0.false))
+returns c = first_is c.args.slots.now c.first.result c.map_or.result c.first.ensures.value (search rules)

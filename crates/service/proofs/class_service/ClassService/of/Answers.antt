@@ -1,4 +1,4 @@
-use Rattle.std.proofs.Common.{◌≡◌, ℕ, ◌+◌, ◌-◌, ◌*◌, length, take, vec_items, sym, ap, ◌∙◌, subst, arith}
+use Rattle.std.proofs.Common.{◌≡◌, ℕ, ◌-◌, length, vec_items, sym, ap, ◌∙◌, subst, arith}
 use Rattle.gates.specs.declared.gate_list.GateList.{GateList}
 use Rattle.gates.specs.Opened.{opened}
 use Rattle.plan.specs.PlanContents.{contents}
@@ -10,46 +10,42 @@ use Rattle.curve.proofs.Least.{sure_least}
 use Rattle.slots.specs.OfPlan.{longest, slots_of}
 use Rattle.slots.specs.Listed.{items}
 use Rattle.slots.proofs.Walks.{cycle_some}
-use Rattle.slots.proofs.Gathers.{counted}
-use Rattle.slots.proofs.OfPlans.{plan_apart, plan_sure, plan_block}
+use Rattle.slots.proofs.OfPlans.{plan_apart, plan_few, plan_sure, plan_block}
 use Rattle.service.proofs.class_service.ClassService.of.Goals as goal
 
 -- the cycle is the plan's
 same_cycle : (n : ℕ) (g h : GateList) → n ≡ g.cycle.0 → g ≡ h → n ≡ h.cycle.0
 same_cycle n g h e f = e ∙ ap (λ (v : GateList). v.cycle.0) f
 
-pub set_table-requires : goal.set_table-requires
-set_table-requires c =
+pub table-marks-requires : goal.table-marks-requires
+table-marks-requires c =
     let p = c.args.plan.now in
     let n = same_cycle c.cycle-cycle.result.0 _ _ (ap (λ t. t.0) c.cycle-cycle.ensures) c.gates.ensures in
     let e = c.as_slice.ensures ∙ c.in_ok-slots.ensures.1 in
-    let s = c.in_ok-slots.slots in
     record {
       apart = subst (λ v. Apart v c.as_slice.result.now) (sym n) (plan_apart p c.args.class c.as_slice.result.now e);
       short = omega (arith, n, p.gates.lawful.most);
       whole = c.in_ok-sure_ticks.ensures.1 ∙ sym (plan_sure p c.args.class c.as_slice.result.now e);
-      room = omega (arith, ap length c.as_slice.ensures, counted s, s.few);
+      few = plan_few p c.args.class c.as_slice.result.now e;
     }
 
 pub invariant_of-result : goal.invariant_of-result
 invariant_of-result c =
     let p = c.args.plan.now in
     let n = same_cycle c.cycle-cycle.result.0 _ _ (ap (λ t. t.0) c.cycle-cycle.ensures) c.gates.ensures in
-    let s = c.in_ok-slots.slots in
     let e = c.in_ok-slots.ensures.1 in
+    let ss = items c.in_ok-slots.slots in
     let some = cycle_some _ _ p.gates.lawful in
     let b = plan_block p c.args.class in
-    let table = subst (λ xs. take (2 * length xs + 1) c.set_table.new.marks ≡ table_of c.cycle-cycle.result.0 xs) c.as_slice.ensures c.set_table.ensures in
-    let apart = subst (λ v. Apart v (items s)) (sym n) (plan_apart p c.args.class (items s) e) in
-    let whole = c.in_ok-sure_ticks.ensures.1 ∙ sym (plan_sure p c.args.class (items s) e) in
     record {
-      some = omega arith;
-      short = omega (arith, p.gates.lawful.most);
-      apart = apart;
-      whole = whole;
+      ready = record {
+        apart = subst (λ v. Apart v ss) (sym n) (plan_apart p c.args.class ss e);
+        some = omega arith;
+        short = omega (arith, n, p.gates.lawful.most);
+        table = c.table-marks.ensures ∙ ap (table_of c.cycle-cycle.result.0) c.as_slice.ensures;
+      };
+      whole = c.in_ok-sure_ticks.ensures.1 ∙ sym (plan_sure p c.args.class ss e);
       low = omega (arith, c.in_ok-blocking.ensures.1);
-      room = c.set_table.auto.marks;
-      table = table;
     }
 
 pub returns : goal.returns
