@@ -1,12 +1,12 @@
--- The slots of a plan are apart, few and small. Assumes nothing.
-use Rattle.std.proofs.Common.{◌≡◌, ℕ, zero, suc, ◌-◌, ◌<◌, ◌≤◌, ◌&&◌, Bool, true, false, cond, nat_lt, List, [], ◌∷◌, ◌++◌, length, map, vec_items, sym, ap, ◌∙◌, subst, arith}
+-- The slots of a plan are apart and small. Assumes nothing.
+use Rattle.std.proofs.Common.{◌≡◌, ℕ, zero, suc, ◌-◌, ◌<◌, ◌≤◌, ◌&&◌, List, [], ◌∷◌, length, map, vec_items, sym, ap, ◌∙◌, subst, arith}
 use Rattle.std.specs.List.{AllByRecursion}
 use Rattle.std.proofs.ByRecursion.{All-weaker}
 use Rattle.std.proofs.lemmas.Bool.{cond_both}
-use Rattle.std.proofs.lemmas.List.{length-append, length-map, length-reverse}
+use Rattle.std.proofs.lemmas.List.{length-map, length-reverse}
 use Rattle.std.proofs.Math.ListN.{get_or-eq_default}
-use Rattle.units.specs.Limits.{most_cycle, most_frame, most_slots}
-use Rattle.calculus.specs.Searches.{any, holds}
+use Rattle.units.specs.Limits.{most_cycle, most_frame}
+use Rattle.calculus.specs.Searches.{any}
 use Rattle.calculus.proofs.Bounded.{greatest_from}
 use Rattle.gates.specs.declared.traffic_class.TrafficClass.{TrafficClass}
 use Rattle.gates.specs.Opened.{opened}
@@ -18,8 +18,6 @@ use Rattle.plan.specs.declared.plan.Plan.{Plan}
 use Rattle.plan.specs.ByClass.{sizes_up}
 use Rattle.plan.specs.PlanContents.{contents}
 use Rattle.sure_ticks.specs.declared.slot.Slot.{Slot}
-use Rattle.sure_ticks.specs.Runs.{clear}
-use Rattle.sure_ticks.specs.Slots.{slot, slots, found}
 use Rattle.sure_ticks.specs.Laws.{Apart}
 use Rattle.sure_ticks.specs.Sure.{sure, lengths, block, block_of as classBlock}
 use Rattle.sure_ticks.proofs.Covered.{Fit}
@@ -29,7 +27,6 @@ use Rattle.sure_ticks.proofs.Sums.{lengths_most, sure_lengths}
 use Rattle.slots.specs.OfPlan.{longest, slots_of, sure_ticks_of, block_of}
 use Rattle.slots.specs.Turns.{Small}
 use Rattle.slots.proofs.Walks.{cycle_some, opened_later}
-use Rattle.slots.proofs.LineRuns.{found_few}
 
 module _ (p : Plan) (k : ℕ) (ss : List Slot) (e : ss ≡ slots_of (contents p) k) where
   -- they are apart
@@ -37,20 +34,6 @@ module _ (p : Plan) (k : ℕ) (ss : List Slot) (e : ss ≡ slots_of (contents p)
   plan_apart =
       subst (Apart p.gates.cycle.0) (sym e)
       (slots_apart p.gates.cycle.0 (cycle_some _ _ p.gates.lawful) (opened (vec_items p.gates.lines)) (opened_later _ _ p.gates.lawful) (longest (contents p)) k)
-
-  -- there are few
-  pub plan_few : length ss ≤ most_slots
-  unfolding slots
-  plan_few =
-      let L : ℕ = p.gates.cycle.0 in
-      let o : ℕ → ℕ → Bool = opened (vec_items p.gates.lines) in
-      let M : ℕ → ℕ = longest (contents p) in
-      let late : List Slot = found true L o M k L in
-      let others : List Slot = found false L o M k L in
-      let all : length (late ++ others) ≤ most_slots = omega (arith, length-append late others, found_few _ _ p.gates.lawful M k) in
-      subst (λ v. length v ≤ most_slots) (sym e)
-      (cond_both (nat_lt 0 (M k)) (cond (holds (clear o k) 0 L) (slot 0 L ∷ []) (late ++ others)) [] (λ v. length v ≤ most_slots)
-      (λ _. cond_both (holds (clear o k) 0 L) (slot 0 L ∷ []) (late ++ others) (λ v. length v ≤ most_slots) (λ _. omega arith) (λ _. all)) (λ _. omega arith))
 
   -- their numbers have 32 bits
   pub plan_small : AllByRecursion Small ss

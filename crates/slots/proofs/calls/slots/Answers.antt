@@ -1,10 +1,6 @@
-use Rattle.std.proofs.Common.{◌∙◌, arith}
-use Rattle.slots.proofs.OfPlans.{plan_few, plan_small}
+use Rattle.std.proofs.Common.{◌∙◌}
+use Rattle.slots.proofs.OfPlans.{plan_small}
 use Rattle.slots.proofs.calls.slots.Goals as goal
 
-pub write-requires : goal.write-requires
-write-requires c =
-    let p = c.args.plan.now in
-    let k = c.from-class.result in
-    let e = c.as_slice.ensures ∙ c.find-found.ensures in
-    record { room = omega (arith, plan_few p k c.as_slice.result.now e, c.if-list-lt-MIN_LIST.false); small = plan_small p k c.as_slice.result.now e }
+pub write-requires-clause-small : goal.write-requires-clause-small
+write-requires-clause-small c = plan_small c.args.plan.now c.from-class.result c.as_slice.result.now (c.as_slice.ensures ∙ c.find-found.ensures)
