@@ -11,24 +11,20 @@ use Rattle.slots.specs.OfPlan.{longest, slots_of}
 use Rattle.slots.specs.Listed.{items}
 use Rattle.slots.proofs.Walks.{cycle_some}
 use Rattle.slots.proofs.OfPlans.{plan_apart, plan_sure, plan_block}
-use Rattle.service.proofs.Few.{plan_few}
 use Rattle.service.proofs.class_service.ClassService.of.Goals as goal
 
 -- the cycle is the plan's
 same_cycle : (n : ℕ) (g h : GateList) → n ≡ g.cycle.0 → g ≡ h → n ≡ h.cycle.0
 same_cycle n g h e f = e ∙ ap (λ (v : GateList). v.cycle.0) f
 
-pub table-marks-requires : goal.table-marks-requires
-table-marks-requires c =
+pub table-marks-requires-clause-apart : goal.table-marks-requires-clause-apart
+table-marks-requires-clause-apart c =
     let p = c.args.plan.now in
     let n = same_cycle c.cycle-cycle.result.0 _ _ (ap (λ t. t.0) c.cycle-cycle.ensures) c.gates.ensures in
-    let e = c.as_slice.ensures ∙ c.in_ok-slots.ensures.1 in
-    record {
-      apart = subst (λ v. Apart v c.as_slice.result.now) (sym n) (plan_apart p c.args.class c.as_slice.result.now e);
-      short = omega (arith, n, p.gates.lawful.most);
-      whole = c.in_ok-sure_ticks.ensures.1 ∙ sym (plan_sure p c.args.class c.as_slice.result.now e);
-      few = omega (arith, ap length e, plan_few p c.args.class);
-    }
+    subst (λ v. Apart v c.as_slice.result.now) (sym n) (plan_apart p c.args.class c.as_slice.result.now (c.as_slice.ensures ∙ c.in_ok-slots.ensures.1))
+
+pub table-marks-requires-clause-whole : goal.table-marks-requires-clause-whole
+table-marks-requires-clause-whole c = c.in_ok-sure_ticks.ensures.1 ∙ sym (plan_sure c.args.plan.now c.args.class c.as_slice.result.now (c.as_slice.ensures ∙ c.in_ok-slots.ensures.1))
 
 pub invariant_of-result : goal.invariant_of-result
 invariant_of-result c =
