@@ -1,7 +1,4 @@
-use Rattle.std.proofs.Common.{map, vec_items, ap, ◌∙◌}
-use Rattle.std.proofs.lemmas.List.{take_all}
-use Rattle.reader.specs.Views.{entry_of}
-use Rattle.plan.specs.Arranged.{flows_of, bucket_kind, periodic_kind}
+use Rattle.std.proofs.Common.{vec_items, ap, ◌∙◌}
 use Rattle.plan.proofs.Grouping.{held_none, held_same, bucket_more, periodic_more, other_more}
 use Rattle.plan.proofs.class_flows.class_flows.Goals as goal
 use Rattle.plan.proofs.class_flows.class_flows.Goals.{then-line-class+in-Bucket+in_ok-push-in-Bucket, then-line-class+in-Periodic+in_ok-push-in-Periodic, else-line-class}
