@@ -26,7 +26,7 @@ pub(crate) fn arrange(heap: Global, flows: &[FlowLine]) -> Result<Vec<ClassFlows
     Ok(classes)
 }
 
-// The flows of one class. A `for`, since one pass over the lines fills both lists, and a full memory ends it.
+// The flows of one class. A `for`, since one pass over the lines fills both lists, and want of memory ends it.
 fn class_flows(heap: Global, flows: &[FlowLine], class: u8) -> Result<ClassFlows, AllocError>
     ensures { IfOk result (λ f. Held class f.buckets.items f.periodics.items (map entry_of flows.now)) }
 {
