@@ -15,7 +15,7 @@ use Rattle.reader.specs.Contents.{FlowEntry}
 use Rattle.reader.specs.Views.{flow_of, entry_of, sizes_of}
 use Rattle.plan.specs.declared.class_plan.ClassPlan.{ClassPlan}
 use Rattle.plan.specs.Arranged.{of_kind, flows_of, groups, silent}
-use Rattle.plan.specs.ByClass.{bucket_entry, periodic_entry, bucket_entries, periodic_entries, entries_in, entries_down, sizes_up}
+use Rattle.plan.specs.ByClass.{bucket_entry, periodic_entry, bucket_entries, periodic_entries, entries_in, entries_down, sizes_up, Held}
 
 -- one line more of a loop over the flow lines
 module _ (c : ℕ) (k : Kind) (ls : List FlowLine) (i : ℕ) (l : FlowLine) (h : i < length ls) (at : l ≡ get_or ls i l) where
@@ -36,18 +36,14 @@ module _ (c : ℕ) (k : Kind) (ls : List FlowLine) (i : ℕ) (l : FlowLine) (h :
   pub flows_pass : of_kind c k (entry_of l) ≡ false → flows_of c k (map entry_of (take (i + 1) ls)) ≡ flows_of c k (map entry_of (take i ls))
   flows_pass e = flows_split ∙ ap (λ xs. flows_of c k (map entry_of (take i ls)) ++ xs) (cond-false (of_kind c k (entry_of l)) (entry_of l ∷ []) [] e) ∙ append-nil _
 
--- a list of buckets and one of periodic flows hold what the class c has of some flows
-abbrev pub Held : ℕ → List Bucket → List Periodic → List FlowEntry → Type 0
-Held c bs ps es = (bucket_entries c bs ≡ flows_of c kind.Bucket es) × (periodic_entries c ps ≡ flows_of c kind.Periodic es)
-
 -- before the first line
 pub held_none : (c : ℕ) (bs : List Bucket) (ps : List Periodic) → bs ≡ [] → ps ≡ [] → Held c bs ps []
 unfolding flows_of
-held_none c bs ps b p = (ap (bucket_entries c) b, ap (periodic_entries c) p)
+held_none c bs ps b p = record { buckets = ap (bucket_entries c) b; periodics = ap (periodic_entries c) p }
 
 -- the same lists under other names
 pub held_same : (c : ℕ) (bs cs : List Bucket) (ps qs : List Periodic) (es : List FlowEntry) → cs ≡ bs → qs ≡ ps → Held c bs ps es → Held c cs qs es
-held_same c bs cs ps qs es b p h = (ap (bucket_entries c) b ∙ h.0, ap (periodic_entries c) p ∙ h.1)
+held_same c bs cs ps qs es b p h = record { buckets = ap (bucket_entries c) b ∙ h.buckets; periodics = ap (periodic_entries c) p ∙ h.periodics }
 
 -- a flow of the class itself, of its kind and of the other one
 here : (c : ℕ) → (eqb c c && true) ≡ true
@@ -65,25 +61,27 @@ module _ (c : ℕ) (ls : List FlowLine) (i : ℕ) (l : FlowLine) (h : i < length
   -- a bucket of the class
   pub bucket_more : (b : Bucket) → l.class ≡ c → l.flow ≡ code.Bucket b → Held c (bs ++ b ∷ []) ps (map entry_of (take (i + 1) ls))
   bucket_more b of is =
-      let entry : entry_of l ≡ bucket_entry c b = (λ j. record { class = of j; flow = flow_of (is j) }) in (
-        map-append (bucket_entry c) bs (b ∷ []) ∙ (λ j. held.0 j ++ sym entry j ∷ []) ∙ sym (flows_take c kind.Bucket ls i l h at (ap (of_kind c kind.Bucket) entry ∙ here c)),
-        held.1 ∙ sym (flows_pass c kind.Periodic ls i l h at (ap (of_kind c kind.Periodic) entry ∙ other_kind c)),
-      )
+      let entry : entry_of l ≡ bucket_entry c b = (λ j. record { class = of j; flow = flow_of (is j) }) in
+      record {
+        buckets = map-append (bucket_entry c) bs (b ∷ []) ∙ (λ j. held.buckets j ++ sym entry j ∷ []) ∙ sym (flows_take c kind.Bucket ls i l h at (ap (of_kind c kind.Bucket) entry ∙ here c));
+        periodics = held.periodics ∙ sym (flows_pass c kind.Periodic ls i l h at (ap (of_kind c kind.Periodic) entry ∙ other_kind c));
+      }
 
   -- a periodic flow of the class
   pub periodic_more : (p : Periodic) → l.class ≡ c → l.flow ≡ code.Periodic p → Held c bs (ps ++ p ∷ []) (map entry_of (take (i + 1) ls))
   periodic_more p of is =
-      let entry : entry_of l ≡ periodic_entry c p = (λ j. record { class = of j; flow = flow_of (is j) }) in (
-        held.0 ∙ sym (flows_pass c kind.Bucket ls i l h at (ap (of_kind c kind.Bucket) entry ∙ other_kind c)),
-        map-append (periodic_entry c) ps (p ∷ []) ∙ (λ j. held.1 j ++ sym entry j ∷ []) ∙ sym (flows_take c kind.Periodic ls i l h at (ap (of_kind c kind.Periodic) entry ∙ here c)),
-      )
+      let entry : entry_of l ≡ periodic_entry c p = (λ j. record { class = of j; flow = flow_of (is j) }) in
+      record {
+        buckets = held.buckets ∙ sym (flows_pass c kind.Bucket ls i l h at (ap (of_kind c kind.Bucket) entry ∙ other_kind c));
+        periodics = map-append (periodic_entry c) ps (p ∷ []) ∙ (λ j. held.periodics j ++ sym entry j ∷ []) ∙ sym (flows_take c kind.Periodic ls i l h at (ap (of_kind c kind.Periodic) entry ∙ here c));
+      }
 
   -- a flow of another class
   pub other_more : (l.class ≡ c → ⊥) → Held c bs ps (map entry_of (take (i + 1) ls))
-  other_more ne = (
-    held.0 ∙ sym (flows_pass c kind.Bucket ls i l h at (other_class c kind.Bucket (entry_of l) ne)),
-    held.1 ∙ sym (flows_pass c kind.Periodic ls i l h at (other_class c kind.Periodic (entry_of l) ne)),
-  )
+  other_more ne = record {
+    buckets = held.buckets ∙ sym (flows_pass c kind.Bucket ls i l h at (other_class c kind.Bucket (entry_of l) ne));
+    periodics = held.periodics ∙ sym (flows_pass c kind.Periodic ls i l h at (other_class c kind.Periodic (entry_of l) ne));
+  }
 
 -- one class more: it stands behind those above it
 entries_push : (c : ℕ) (fs : List ClassPlan) (f : ClassPlan) → entries_down c (fs ++ f ∷ []) ≡ entries_down c fs ++ entries_in (c - length fs) f
@@ -93,38 +91,29 @@ entries_push c (g ∷ fs) f =
     ap (λ xs. entries_in c g ++ xs) (entries_push (c - 1) fs f ∙ ap (λ e. entries_down (c - 1) fs ++ entries_in e f) d)
     ∙ sym (append_assoc (entries_in c g) (entries_down (c - 1) fs) (entries_in (c - suc (length fs)) f))
 
--- the sizes of the class c
-pub sizes_at : (ts : List TrafficClass) (c : ℕ) (t : TrafficClass) → c < length ts → t ≡ get_or ts c t → sizes_of t ≡ get_or (map sizes_of ts) c silent
-sizes_at [] c t h e = absurd (omega arith)
-sizes_at (x ∷ ts) zero t h e = ap sizes_of e
-sizes_at (x ∷ ts) (suc c) t h e = sizes_at ts c t (omega arith) e
+-- a loop down the classes, of which m are left: one class more
+pub groups_more : (c m : ℕ) (es : List FlowEntry) (fs : List ClassPlan) (f : ClassPlan) → m ≡ suc c → length fs + m ≡ 8 → Held c (vec_items f.buckets) (vec_items f.periodics) es →
+    entries_down 7 (fs ++ f ∷ []) ++ groups c es ≡ entries_down 7 fs ++ groups m es
+unfolding groups
+groups_more c m es fs f s n held =
+    let d : 7 - length fs ≡ c = omega arith in
+    ap (λ xs. xs ++ groups c es) (entries_push 7 fs f ∙ ap (λ e. entries_down 7 fs ++ entries_in e f) d)
+    ∙ append_assoc (entries_down 7 fs) (entries_in c f) (groups c es)
+    ∙ ap (λ xs. entries_down 7 fs ++ xs) ((λ j. (held.buckets j ++ held.periodics j) ++ groups c es) ∙ ap (λ m. groups m es) (sym s))
 
--- a loop down the classes, of which n are left: one class more
-module _ (n : ℕ) (es : List FlowEntry) (ks : List ClassPlan) (k : ClassPlan) (some : 0 < n) (few : n ≤ 8) (so_far : length ks ≡ 8 - n) where
-  -- its flows stand behind those of the higher classes
-  pub groups_more : bucket_entries (n - 1) (vec_items k.buckets) ≡ flows_of (n - 1) kind.Bucket es → periodic_entries (n - 1) (vec_items k.periodics) ≡ flows_of (n - 1) kind.Periodic es →
-      entries_down 7 (ks ++ k ∷ []) ++ groups (n - 1) es ≡ entries_down 7 ks ++ groups n es
-  unfolding groups
-  groups_more b p =
-      let d : 7 - length ks ≡ n - 1 = omega arith in
-      let s : n ≡ suc (n - 1) = omega arith in
-      ap (λ xs. xs ++ groups (n - 1) es) (entries_push 7 ks k ∙ ap (λ e. entries_down 7 ks ++ entries_in e k) d)
-      ∙ append_assoc (entries_down 7 ks) (entries_in (n - 1) k) (groups (n - 1) es)
-      ∙ ap (λ xs. entries_down 7 ks ++ xs) ((λ j. (b j ++ p j) ++ groups (n - 1) es) ∙ ap (λ m. groups m es) (sym s))
-
-  -- and its sizes before theirs
-  pub sizes_more : (ts : List TrafficClass) → length ts ≡ 8 → k.sizes ≡ get_or ts (n - 1) k.sizes → sizes_up ks ≡ drop n ts → sizes_up (ks ++ k ∷ []) ≡ drop (n - 1) ts
-  sizes_more ts eight is h =
-      let s : n ≡ suc (n - 1) = omega arith in
-      ap reverse (map-append (λ (j : ClassPlan). j.sizes) ks (k ∷ []))
-      ∙ reverse-append (map (λ (j : ClassPlan). j.sizes) ks) (k.sizes ∷ [])
-      ∙ (λ i. is i ∷ (h ∙ ap (λ i. drop i ts) s) i)
-      ∙ sym (drop-cons ts (n - 1) k.sizes (omega arith))
+-- and its sizes before theirs
+pub sizes_more : (n : ℕ) (ks : List ClassPlan) (k : ClassPlan) (ts : List TrafficClass) → 0 < n → n ≤ length ts → k.sizes ≡ get_or ts (n - 1) k.sizes → sizes_up ks ≡ drop n ts → sizes_up (ks ++ k ∷ []) ≡ drop (n - 1) ts
+sizes_more n ks k ts some there is h =
+    let s : n ≡ suc (n - 1) = omega arith in
+    ap reverse (map-append (λ (j : ClassPlan). j.sizes) ks (k ∷ []))
+    ∙ reverse-append (map (λ (j : ClassPlan). j.sizes) ks) (k.sizes ∷ [])
+    ∙ (λ i. is i ∷ (h ∙ ap (λ i. drop i ts) s) i)
+    ∙ sym (drop-cons ts (n - 1) k.sizes (omega arith))
 
 -- no class left
-pub groups_end : (n : ℕ) (es xs : List FlowEntry) → n ≡ 0 → xs ++ groups n es ≡ groups 8 es → xs ≡ groups 8 es
+pub groups_end : (m : ℕ) (es xs : List FlowEntry) → m ≡ 0 → xs ++ groups m es ≡ groups 8 es → xs ≡ groups 8 es
 unfolding groups
-groups_end n es xs z e = sym (append-nil xs) ∙ ap (λ m. xs ++ groups m es) (sym z) ∙ e
+groups_end m es xs z e = sym (append-nil xs) ∙ ap (λ m. xs ++ groups m es) (sym z) ∙ e
 
 -- a list of the class c, by kind
 module _ (c : ℕ) where
@@ -184,7 +173,7 @@ entries_below c d k (f ∷ fs) h =
     ∙ (λ i. entries_other c d k (λ e. omega arith) f i ++ entries_below c (d - 1) k fs (omega arith) i)
 
 -- the flows of a kind in the list of the class c are those that the list of all classes has
-abbrev pub in_class : ℕ → Kind → ClassPlan → List FlowEntry
+abbrev in_class : ℕ → Kind → ClassPlan → List FlowEntry
 in_class c kind.Bucket f = bucket_entries c (vec_items f.buckets)
 in_class c kind.Periodic f = periodic_entries c (vec_items f.periodics)
 
@@ -204,7 +193,7 @@ rest_none k c [] n = refl
 rest_none k c (f ∷ fs) n = entries_below c (c - 1) k (f ∷ fs) (omega arith)
 
 -- the list at the place of the class c holds its flows, and all of them
-pub class_entries : (k : Kind) (c d : ℕ) (fs : List ClassPlan) (f : ClassPlan) → c ≤ d → length fs ≡ suc d → f ≡ get_or fs (d - c) f → in_class c k f ≡ flows_of c k (entries_down d fs)
+class_entries : (k : Kind) (c d : ℕ) (fs : List ClassPlan) (f : ClassPlan) → c ≤ d → length fs ≡ suc d → f ≡ get_or fs (d - c) f → in_class c k f ≡ flows_of c k (entries_down d fs)
 class_entries k c d [] f le n at = absurd (omega arith)
 class_entries k c d (g ∷ fs) f le n at =
     ⊎_elim
@@ -222,6 +211,16 @@ class_entries k c d (g ∷ fs) f le n at =
     ∙ sym (flows_append c k (entries_in c g) (entries_down (c - 1) fs) ∙ (λ i. own_entries c k g i ++ rest_none k c fs m i) ∙ append-nil (in_class c k g))
     ∙ ap (λ j. flows_of c k (entries_down j (g ∷ fs))) e)
     (cases_lt c d)
+
+-- so both lists there hold what the class has
+pub held_at : (c : ℕ) (fs : List ClassPlan) (f : ClassPlan) → c ≤ 7 → length fs ≡ 8 → f ≡ get_or fs (7 - c) f → Held c (vec_items f.buckets) (vec_items f.periodics) (entries_down 7 fs)
+held_at c fs f le n at = record { buckets = class_entries kind.Bucket c 7 fs f le n at; periodics = class_entries kind.Periodic c 7 fs f le n at }
+
+-- the sizes of the class c
+sizes_at : (ts : List TrafficClass) (c : ℕ) (t : TrafficClass) → c < length ts → t ≡ get_or ts c t → sizes_of t ≡ get_or (map sizes_of ts) c silent
+sizes_at [] c t h e = absurd (omega arith)
+sizes_at (x ∷ ts) zero t h e = ap sizes_of e
+sizes_at (x ∷ ts) (suc c) t h e = sizes_at ts c t (omega arith) e
 
 -- the place of the class c holds its sizes
 pub class_sizes : (ks : List ClassPlan) (c : ℕ) (k : ClassPlan) → length ks ≡ 8 → c ≤ 7 → k ≡ get_or ks (7 - c) k → sizes_of k.sizes ≡ get_or (map sizes_of (sizes_up ks)) c silent

@@ -1,10 +1,11 @@
 -- What the list of classes says. Assumes nothing.
-use Rattle.std.specs.Prelude.{ℕ, ◌-◌, List, [], ◌∷◌, ◌++◌, map, reverse, vec_items}
+use Rattle.std.specs.Prelude.{◌≡◌, ℕ, ◌-◌, List, [], ◌∷◌, ◌++◌, map, reverse, vec_items}
 use Rattle.envelope.specs.declared.bucket.Bucket.{Bucket}
 use Rattle.envelope.specs.declared.periodic.Periodic.{Periodic}
 use Rattle.gates.specs.declared.traffic_class.TrafficClass.{TrafficClass}
 use Rattle.reader.specs.Contents.{FlowEntry}
 use Rattle.reader.specs.Views.{bucket_of, periodic_of}
+use Rattle.plan.specs.Arranged.{flows_of, bucket_kind, periodic_kind}
 use Rattle.plan.specs.declared.class_plan.ClassPlan.{ClassPlan}
 
 -- a bucket as a flow of the class c
@@ -35,3 +36,8 @@ entries_down c (k ∷ ks) = entries_in c k ++ entries_down (c - 1) ks
 -- the sizes of the classes from class 0 up
 abbrev pub sizes_up : List ClassPlan → List TrafficClass
 sizes_up ks = reverse (map (λ k. k.sizes) ks)
+
+-- the buckets and periodic flows of the class c among some flows, each in the order in which they stand
+pub record Held (c : ℕ) (bs : List Bucket) (ps : List Periodic) (fs : List FlowEntry) : Type 0 where
+  pub buckets : bucket_entries c bs ≡ flows_of c bucket_kind fs
+  pub periodics : periodic_entries c ps ≡ flows_of c periodic_kind fs

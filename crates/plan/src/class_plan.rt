@@ -1,8 +1,8 @@
 // What a plan says of one class.
 ghost use Rattle.std.specs.Prelude.{◌≡◌, ◌-◌, map, IfOk, vec_len};
 ghost use Rattle.reader.specs.Views.{entry_of};
-ghost use Rattle.plan.specs.Arranged.{flows_of, bucket_kind, periodic_kind, groups};
-ghost use Rattle.plan.specs.ByClass.{bucket_entries, periodic_entries, entries_down, sizes_up};
+ghost use Rattle.plan.specs.Arranged.{groups};
+ghost use Rattle.plan.specs.ByClass.{entries_down, sizes_up, Held};
 
 use envelope::{Bucket, Periodic};
 use gates::TrafficClass;
@@ -34,7 +34,7 @@ pub(crate) fn arrange(
     Ok(classes)
 }
 
-// What such a plan says of one class.
+// What such a plan says of one class. A `for`, since one pass over the lines fills both lists, and want of memory ends it.
 fn class_plan(
     heap: Global,
     sizes: TrafficClass,
@@ -42,8 +42,7 @@ fn class_plan(
     class: u8,
 ) -> Result<ClassPlan, AllocError>
     ensures sizes { IfOk result (λ k. k.sizes ≡ sizes) }
-    ensures buckets { IfOk result (λ k. bucket_entries class k.buckets.items ≡ flows_of class bucket_kind (map entry_of flows.now)) }
-    ensures periodics { IfOk result (λ k. periodic_entries class k.periodics.items ≡ flows_of class periodic_kind (map entry_of flows.now)) }
+    ensures flows { IfOk result (λ k. Held class k.buckets.items k.periodics.items (map entry_of flows.now)) }
 {
     let mut buckets = Vec::new(heap);
     let mut periodics = Vec::new(heap);

@@ -1,5 +1,5 @@
 // Making a plan, reading one, and what it tells.
-ghost use Rattle.std.specs.Prelude.{◌≡◌, ◌-◌, ◌⊎◌, IfOk, Ok, Err, MatchResult, OnOk, slice_index_or};
+ghost use Rattle.std.specs.Prelude.{◌≡◌, ◌⊎◌, IfOk, Ok, Err, MatchResult, OnOk};
 ghost use Rattle.units.specs.Classes.{ByClass};
 ghost use Rattle.faults.specs.declared.fault.PlanFault.TheVariants.{Memory};
 ghost use Rattle.reader.specs.Parsed.{contents_of};
@@ -8,7 +8,7 @@ ghost use Rattle.reader.specs.Contents.{Contents};
 ghost use Rattle.reader.specs.Views.{sizes_of};
 ghost use Rattle.writing.specs.Inverse.{TextOf};
 ghost use Rattle.plan.specs.Arranged.{flows_of, bucket_kind, periodic_kind, class_of, shut_contents, arranged};
-ghost use Rattle.plan.specs.ByClass.{bucket_entries, periodic_entries};
+ghost use Rattle.plan.specs.ByClass.{bucket_entries, periodic_entries, Held};
 ghost use Rattle.plan.specs.PlanContents.{contents};
 
 use crate::class_plan::{ClassPlan, arrange};
@@ -97,7 +97,8 @@ impl Plan {
 
     // What the plan says of a class. Refused where there is no such class.
     fn of_class(&self, class: u8) -> Result<&ClassPlan, Refusal>
-        ensures { ByClass class result (λ k. k.now ≡ slice_index_or self.now.classes.items (7 - class) k.now) }
+        ensures { ByClass class result (λ k. (sizes_of k.now.sizes ≡ class_of (contents self.now) class)
+            × Held class k.now.buckets.items k.now.periodics.items (contents self.now).flows) }
     {
         let class = Class::try_from(class)?;
         Ok(&self.classes[7 - usize::from(class)])

@@ -1,4 +1,4 @@
-use Rattle.std.proofs.Common.{◌≡◌, ◌-◌, ◌++◌, map, get_or, drop, vec_items, sym, ap, ◌∙◌, arith}
+use Rattle.std.proofs.Common.{◌≡◌, ◌-◌, ◌++◌, map, get_or, drop, vec_items, sym, ap, ◌∙◌, subst, arith}
 use Rattle.reader.specs.Views.{entry_of}
 use Rattle.plan.specs.Arranged.{groups}
 use Rattle.plan.specs.ByClass.{entries_down, sizes_up}
@@ -11,14 +11,14 @@ loop-class-preserved c =
     let es = map entry_of c.args.flows.now in
     let ks = vec_items c.loop-class.classes in
     let k = c.in_ok-one.one in
-    let h = c.in_ok-one.ensures in
     let so = c.loop-class.invariant in
-    let far = sym c.loop-class.classes.ok.0 ∙ so.so_far in
-    let is : k.sizes ≡ get_or c.args.sizes.now (n - 1) k.sizes = cc in
+    let put = c.in_ok-push.ensures in
+    let is : k.sizes ≡ get_or c.args.sizes.now (n - 1) k.sizes =
+    subst (λ t. t ≡ get_or c.args.sizes.now (n - 1) t) (sym (c.in_ok-one.ensures.sizes ∙ sym c.index-sizes-from.is)) (c.index-sizes-from.is ∙ ap (λ i. get_or c.args.sizes.now i c.index-sizes-from.result) c.from.ensures) in
     record {
-      flows = ap (λ js. entries_down 7 js ++ groups (n - 1) es) c.in_ok-push.ensures.items ∙ groups_more n es ks k c.loop-class-test.true c.loop-class.auto.class far h.buckets h.periodics ∙ so.flows;
-      sizes = ap sizes_up c.in_ok-push.ensures.items ∙ sizes_more n es ks k c.loop-class-test.true c.loop-class.auto.class far c.args.sizes.now c.told-sizes is so.sizes;
-      so_far = omega (arith, c.in_ok-push.ensures.len, so.so_far);
+      flows = ap (λ js. entries_down 7 js ++ groups (n - 1) es) put.items ∙ groups_more (n - 1) n es ks k (omega arith) (omega (arith, c.loop-class.classes.ok.0, so.len)) c.in_ok-one.ensures.flows ∙ so.flows;
+      sizes = ap sizes_up put.items ∙ sizes_more n ks k c.args.sizes.now c.loop-class-test.true (omega (arith, c.told-sizes, c.loop-class.auto.class)) is so.sizes;
+      len = omega (arith, put.len, so.len);
     }
 
 pub returns : goal.returns
@@ -27,5 +27,5 @@ returns c =
     let z : c.loop-class.class ≡ 0 = omega arith in
     record {
       sizes = so.sizes ∙ ap (λ n. drop n c.args.sizes.now) z;
-      flows = (omega (arith, so.so_far), groups_end c.loop-class.class (map entry_of c.args.flows.now) _ z so.flows);
+      flows = (omega (arith, so.len), groups_end c.loop-class.class (map entry_of c.args.flows.now) _ z so.flows);
     }

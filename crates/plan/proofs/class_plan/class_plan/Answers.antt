@@ -1,7 +1,4 @@
-use Rattle.std.proofs.Common.{map, vec_items, refl, ap, ◌∙◌}
-use Rattle.std.proofs.lemmas.List.{take_all}
-use Rattle.reader.specs.Views.{entry_of}
-use Rattle.plan.specs.Arranged.{flows_of, bucket_kind, periodic_kind}
+use Rattle.std.proofs.Common.{vec_items, ap, ◌∙◌}
 use Rattle.plan.proofs.Grouping.{held_none, held_same, bucket_more, periodic_more, other_more}
 use Rattle.plan.proofs.class_plan.class_plan.Goals as goal
 use Rattle.plan.proofs.class_plan.class_plan.Goals.{then-line-class+in-Bucket+in_ok-push-in-Bucket, then-line-class+in-Periodic+in_ok-push-in-Periodic, else-line-class}
@@ -25,12 +22,3 @@ loop-line-preserved c =
           held_same _ _ _ _ _ _ (ap vec_items w.buckets-is) (ap vec_items w.periodics-is ∙ w.in_ok-push-in-Periodic.ensures.items) (periodic_more _ ls i l lt at bs ps c.loop-line.invariant w.in-Periodic.periodic w.if-line-class.true w.in-Periodic.is)
       | else-line-class w ↦ held_same _ _ _ _ _ _ (ap vec_items w.buckets-is) (ap vec_items w.periodics-is) (other_more _ ls i l lt at bs ps c.loop-line.invariant w.if-line-class.false)
     ]
-
-pub returns : goal.returns
-returns c =
-    let all = take_all c.loop-line.line-index c.args.flows.now c.loop-line-test.false in
-    record {
-      sizes = refl;
-      buckets = c.loop-line.invariant.0 ∙ ap (λ ls. flows_of c.args.class bucket_kind (map entry_of ls)) all;
-      periodics = c.loop-line.invariant.1 ∙ ap (λ ls. flows_of c.args.class periodic_kind (map entry_of ls)) all;
-    }

@@ -1,6 +1,6 @@
 use Rattle.std.proofs.Common.{map, take, vec_items}
 use Rattle.reader.specs.Views.{entry_of}
-use Rattle.plan.proofs.Grouping.{Held}
+use Rattle.plan.specs.ByClass.{Held}
 use Rattle.plan.proofs.class_plan.class_plan.Given as goal
 
 -- the flows of the class among the lines so far
