@@ -1,10 +1,9 @@
 // A plan that comes on standard input: the bytes that are kept, and the plan that they say.
 #![tactic(auto)]
 
-ghost use Rattle.std.specs.Prelude.{◌≡◌, suc, ◌-◌, ◌≤◌, ◌⊎◌, ◌++◌, take, Ok, Err, vec_len, IfOk, MatchResult, OnOk};
+ghost use Rattle.std.specs.Prelude.{◌≡◌, suc, ◌-◌, ◌≤◌, ◌++◌, take, Ok, vec_len, IfOk, MatchResult, OnOk};
 ghost use Rattle.units.specs.Limits.{most_text};
-ghost use Rattle.faults.specs.declared.fault.PlanFault.TheVariants.{Memory};
-ghost use Rattle.reader.specs.Reading.{read_plan};
+ghost use Rattle.reader.specs.Reading.{read_plan, FaultOf};
 ghost use Rattle.plan.specs.PlanContents.{contents};
 
 use faults::PlanFault;
@@ -16,7 +15,7 @@ use units::limits::MAX_TEXT;
 
 // The plan that the text says, or why there is none.
 pub fn read_plan(heap: Global, text: &[u8]) -> Result<Plan, PlanFault>
-    ensures { MatchResult result (λ p. Ok (contents p) ≡ read_plan text.now) (λ e. (e ≡ Memory) ⊎ (Err e ≡ read_plan text.now)) }
+    ensures { MatchResult result (λ p. Ok (contents p) ≡ read_plan text.now) (FaultOf text.now) }
 {
     let mut plan = Plan::new(heap)?;
     plan.read(text)?;

@@ -1,9 +1,9 @@
 -- What a plan text says, or why it is refused: the lines in the order in which they are due. Assumes nothing.
-use Rattle.std.specs.Prelude.{ℕ, ◌+◌, cond, ◌&&◌, List, [], length, Ok, Err, Result, ◌==◌, nat_le}
+use Rattle.std.specs.Prelude.{◌≡◌, ℕ, ◌+◌, ◌⊎◌, cond, ◌&&◌, List, [], length, Ok, Err, Result, ◌==◌, nat_le}
 use Rattle.units.specs.Limits.{classes, most_text, most_port, most_lines, most_cycle, most_flows}
 use Rattle.faults.specs.declared.fault.LineFault.{LineFault}
 use Rattle.faults.specs.declared.fault.PlanFault.{PlanFault}
-use Rattle.faults.specs.declared.fault.PlanFault.TheVariants.{Size, Sum, More, Line}
+use Rattle.faults.specs.declared.fault.PlanFault.TheVariants.{Size, Sum, More, Line, Memory}
 use Rattle.gates.specs.declared.gate_line.GateLine.{GateLine}
 use Rattle.gates.specs.Opened.{total}
 use Rattle.text.specs.declared.keys.Key.TheVariants.{Port, Cycle, Gates, Flows}
@@ -50,3 +50,7 @@ read_lines text =
 -- a text of 1 to 8,192 bytes
 unfoldable pub read_plan : List ℕ → Result Contents PlanFault
 read_plan text = cond (nat_le 1 (length text) && nat_le (length text) most_text) (read_lines text) (Err Size)
+
+-- why no plan is read from a text: the first fault in it, or that memory is wanting
+abbrev pub FaultOf : List ℕ → PlanFault → Type 0
+FaultOf text e = (e ≡ Memory) ⊎ (Err e ≡ read_plan text)

@@ -1,10 +1,9 @@
 // A plan text from its first byte to its last.
-ghost use Rattle.std.specs.Prelude.{◌≡◌, ◌≤◌, ◌⊎◌, Ok, Err, length, MatchResult};
+ghost use Rattle.std.specs.Prelude.{◌≡◌, ◌≤◌, Ok, length, MatchResult};
 ghost use Rattle.units.specs.Limits.{most_text};
-ghost use Rattle.faults.specs.declared.fault.PlanFault.TheVariants.{Memory};
 ghost use Rattle.reader.specs.Chain.{map_ok};
 ghost use Rattle.reader.specs.Parsed.{contents_of};
-ghost use Rattle.reader.specs.Reading.{read_plan, read_lines};
+ghost use Rattle.reader.specs.Reading.{read_plan, read_lines, FaultOf};
 
 use crate::parsed::{FlowLine, Parsed};
 use crate::reader::Reader;
@@ -16,7 +15,7 @@ use units::limits::{MAX_FLOWS, MAX_GATE_LINES, MAX_TEXT};
 
 // What the text says, or the first fault in it. All memory is taken before the first byte is read, so want of memory is kept apart.
 pub fn parse(heap: Global, text: &[u8]) -> Result<Parsed, PlanFault>
-    ensures { MatchResult result (λ p. Ok (contents_of p) ≡ read_plan text.now) (λ e. (e ≡ Memory) ⊎ (Err e ≡ read_plan text.now)) }
+    ensures { MatchResult result (λ p. Ok (contents_of p) ≡ read_plan text.now) (FaultOf text.now) }
 {
     let lines = Room::new(heap)?;
     let flows = Room::new(heap)?;

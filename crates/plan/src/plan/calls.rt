@@ -1,9 +1,9 @@
 // Making a plan, reading one, and what it tells.
-ghost use Rattle.std.specs.Prelude.{◌≡◌, ◌⊎◌, IfOk, Ok, Err, MatchResult, OnOk};
+ghost use Rattle.std.specs.Prelude.{◌≡◌, IfOk, Ok, MatchResult, OnOk};
 ghost use Rattle.units.specs.Classes.{ByClass};
 ghost use Rattle.faults.specs.declared.fault.PlanFault.TheVariants.{Memory};
 ghost use Rattle.reader.specs.Parsed.{contents_of};
-ghost use Rattle.reader.specs.Reading.{read_plan};
+ghost use Rattle.reader.specs.Reading.{read_plan, FaultOf};
 ghost use Rattle.reader.specs.Contents.{Contents};
 ghost use Rattle.reader.specs.Views.{sizes_of};
 ghost use Rattle.writing.specs.Inverse.{TextOf};
@@ -37,7 +37,7 @@ impl Plan {
 
     // The plan becomes the one that the text says. On a fault, or for want of memory, it stays as it was.
     pub fn read(&mut self, text: &[u8]) -> Result<(), PlanFault>
-        ensures outcome { MatchResult result (λ _. Ok (contents self.new) ≡ read_plan text.now) (λ e. (self.new ≡ self.old) × ((e ≡ Memory) ⊎ (Err e ≡ read_plan text.now))) }
+        ensures outcome { MatchResult result (λ _. Ok (contents self.new) ≡ read_plan text.now) (λ e. (self.new ≡ self.old) × FaultOf text.now e) }
         ensures written { OnOk result (TextOf (contents self.new) text.now) }
         ensures accepted { (s : Contents) → TextOf s text.now → MatchResult result (λ _. contents self.new ≡ s) (λ e. e ≡ Memory) }
     {
