@@ -44,6 +44,7 @@ pub enum PlanFault {
     Memory,
 }
 
+// By a rule of the project a fault goes up by `From`, and is held whole. By hand, since the contracts name what each impl gives.
 impl From<FieldFault> for LineFault {
     ghost from_gives = { λ e r. r ≡ Field e };
 

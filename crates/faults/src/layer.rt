@@ -13,7 +13,7 @@ pub enum Layer {
 }
 
 impl Layer {
-    // The word for the layer: field, line or plan.
+    // The word for the layer: field, line or plan. This is where `Display` has it from; a case for each word is a rule of the project.
     pub fn word(self) -> &'static str
         ensures { result.now ≡ layer_word self }
     {

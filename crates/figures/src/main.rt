@@ -13,6 +13,7 @@ fn main(rt: HostRuntime) -> anyhow::Result<()> {
     run(&rt)
 }
 
+// The programs share what has a contract, in `plan_input`. What comes on standard input no contract can name, so each has this for itself.
 fn run(rt: &HostRuntime) -> anyhow::Result<()> {
     let text = read_input(rt)?;
     match read_plan(rt.alloc(), text.as_slice()) {

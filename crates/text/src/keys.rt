@@ -29,8 +29,9 @@ pub fn value<'a>(line: &'a [u8], due: Key, number: u32) -> Result<&'a [u8], Line
     }
 }
 
-// What follows the key and its equals sign, where the line begins with them. One match over the pair of key and line is no plainer: its
-// last arm would be reached in 46 ways, and the proof would have to name each of them byte by byte.
+// What follows the key and its equals sign, where the line begins with them. Patterns with named first bytes are a rule of
+// the project. One match over the pair of key and line is no plainer: its last arm would be reached in 46 ways, and the proof would
+// have to name each of them byte by byte.
 fn after_key<'a>(line: &'a [u8], due: Key) -> Option<&'a [u8]>
     ensures { option_map (λ x. x.now) result ≡ strip (word due) line.now }
 {

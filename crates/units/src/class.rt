@@ -1,4 +1,5 @@
-// The number of a traffic class, seen to be one of the eight.
+// The number of a traffic class, seen to be one of the eight. Public calls take any number and make a `Class` of it first: a narrower
+// type would ask more of their callers than a refusal does.
 ghost use Rattle.std.specs.Prelude.{◌≡◌, ◌≤◌};
 ghost use Rattle.units.specs.Classes.{ByClass};
 
