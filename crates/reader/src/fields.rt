@@ -39,7 +39,7 @@ impl<'a> Fields<'a> {
         numeral(field).ok_or(FieldFault::Form(self.line))
     }
 
-    // The number in the next field, from `least` to `most`.
+    // The number in the next field, from `least` to `most`: two numbers, since a range would be made for each call only to be taken apart.
     #[tactic(auto, unfolding(crate::specs::Fields::number_field))]
     pub(crate) fn number(&mut self, least: u64, most: u64) -> Result<u64, FieldFault>
         ensures value { result ≡ number_field self.old.line least most (before comma self.old.rest.now) }

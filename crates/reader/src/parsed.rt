@@ -13,6 +13,7 @@ pub struct Header {
     pub cycle: u64,
     pub gates: u64,
     ghost port_high: { port ≤ most_port },
+    ghost cycle_low: { 1 ≤ cycle },
     ghost cycle_high: { cycle ≤ most_cycle },
     ghost gates_low: { 1 ≤ gates },
     ghost gates_high: { gates ≤ most_lines },

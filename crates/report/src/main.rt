@@ -10,7 +10,7 @@ fn main(rt: HostRuntime) -> anyhow::Result<()> {
     run(&rt)
 }
 
-// The programs share what has a contract, in `plan_input`. What comes on standard input no contract can name, so each has this for itself.
+// Both programs begin so. One function for them would take what each prints as a closure and promise nothing of it, and be no plainer.
 fn run(rt: &HostRuntime) -> anyhow::Result<()> {
     let text = read_input(rt)?;
     match read_plan(rt.alloc(), text.as_slice()) {
