@@ -11,7 +11,7 @@ ghost use Rattle.service.specs.CurveOfPlan.{curve_of};
 use crate::class_service::ClassService;
 use crate::table::table;
 use plan::Plan;
-use slots::{SlotList, block, sure};
+use slots::ClassSlots;
 use std::alloc::AllocError;
 use supply::Supply;
 use units::limits::MAX_SPAN;
@@ -22,15 +22,13 @@ impl ClassService {
     pub fn of(plan: &Plan, class: u8) -> Result<ClassService, Refusal>
         ensures { ByClass class result (λ s. (n : ℕ) → served_by s.cycle.0 (items s.slots) s.block.0 n ≡ curve_of (contents plan.now) class n) }
     {
-        let slots = SlotList::of(plan, class)?;
-        let sure_ticks = sure(plan, class)?;
-        let blocking = block(plan, class)?;
+        let ClassSlots { slots, sure, block } = ClassSlots::of(plan, class)?;
         let cycle = plan.gates().cycle();
-        let marks = table(cycle.0, slots.as_slice(), sure_ticks.0);
+        let marks = table(cycle.0, slots.as_slice(), sure.0);
         Ok(ClassService {
             cycle,
-            sure: sure_ticks,
-            block: blocking,
+            sure,
+            block,
             slots,
             marks,
         })
