@@ -57,9 +57,12 @@ returns c =
     let b = c.in_ok-slots.field-0.block.0 in
     let n = same_cycle c.cycle-cycle.result.0 _ _ (ap (λ t. t.0) c.cycle-cycle.ensures) c.gates.ensures in (
       c.in_ok-slots.ensures.0,
-      λ d.
-          ap (λ v. least_covered v (items s) d - b) n
-          ∙ ap (λ ss. least_covered L ss d - b) c.in_ok-slots.ensures.1.0
-          ∙ ap (λ v. least_covered L (slots_of (contents p) k) d - v) c.in_ok-slots.ensures.1.2
-          ∙ ap (λ v. v - block L o M k) (sym (sure_least L o M k d)),
+      (
+        λ d.
+            ap (λ v. least_covered v (items s) d - b) n
+            ∙ ap (λ ss. least_covered L ss d - b) c.in_ok-slots.ensures.1.0
+            ∙ ap (λ v. least_covered L (slots_of (contents p) k) d - v) c.in_ok-slots.ensures.1.2
+            ∙ ap (λ v. v - block L o M k) (sym (sure_least L o M k d)),
+        c.in_ok-slots.ensures.1.1,
+      ),
     )
