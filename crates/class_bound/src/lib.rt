@@ -12,7 +12,6 @@ use bound::bound_over;
 use envelope::Envelope;
 use plan::Plan;
 use service::ClassService;
-use slots::sure;
 use units::{Bytes, Refusal, Ticks};
 
 // Delay and held bytes of a class whose frames are inside the envelope. Refused where there is no such class, then where it has no
@@ -24,10 +23,10 @@ pub fn bound_under<E: Envelope>(
 ) -> Result<(Ticks, Bytes), Refusal>
     ensures { let s = contents plan.now in let alpha = E.alpha envelope.now in MatchResult result (λ b. IsBound s class alpha b.0.0 b.1.0) (λ e. Unbounded s class alpha e) }
 {
-    if sure(plan, class)?.0 == 0 {
+    let service = ClassService::of(plan, class)?;
+    if service.sure().0 == 0 {
         return Err(Refusal::NoSureTick);
     }
-    let service = ClassService::of(plan, class)?;
     bound_over(&service, envelope).ok_or(Refusal::NoClosingSpan)
 }
 

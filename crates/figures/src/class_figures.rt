@@ -8,7 +8,7 @@ ghost use Rattle.figures.specs.Bounded.{Bounded};
 
 use class_bound::bound;
 use plan::Plan;
-use slots::{MIN_LIST, block, slots, sure};
+use slots::ClassSlots;
 use std::fmt;
 use units::{Bytes, Refusal, Ticks};
 
@@ -31,12 +31,12 @@ impl ClassFigures {
             × (f.block.0 ≡ block_of (contents plan.now) class)
             × Bounded (contents plan.now) class f.bound) }
     {
-        let mut list = [0u32; MIN_LIST];
+        let ClassSlots { slots, sure, block } = ClassSlots::of(plan, class)?;
         Ok(ClassFigures {
             class,
-            slots: slots(plan, class, &mut list)?,
-            sure: sure(plan, class)?,
-            block: block(plan, class)?,
+            slots: slots.len(),
+            sure,
+            block,
             bound: bound(plan, class),
         })
     }

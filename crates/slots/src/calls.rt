@@ -1,16 +1,14 @@
 // What is asked of a plan: the slots of a class, its sure ticks, its block.
 ghost use Rattle.std.specs.Prelude.{◌≡◌, ◌*◌, ◌<◌, ◌≤◌, ◌++◌, length, drop, MatchResult};
 ghost use Rattle.std.specs.List.{AllByRecursion};
-ghost use Rattle.units.specs.Limits.{most_cycle, most_slots};
+ghost use Rattle.units.specs.Limits.{most_slots};
 ghost use Rattle.units.specs.Classes.{ByClass};
 ghost use Rattle.plan.specs.PlanContents.{contents};
-ghost use Rattle.sure_ticks.specs.Sure.{lengths};
 ghost use Rattle.slots.specs.OfPlan.{slots_of, sure_ticks_of, block_of};
 ghost use Rattle.slots.specs.Turns.{turns, Small, Refused};
 
-use crate::blocking::FramesInSlots;
+use crate::class_slots::ClassSlots;
 use crate::find::find;
-use crate::lower::greatest_below;
 use plan::Plan;
 use sure_ticks::Slot;
 use units::limits::MAX_SLOTS;
@@ -41,9 +39,7 @@ pub fn slots(plan: &Plan, class: u8, list: &mut [u32]) -> Result<usize, Refusal>
 pub fn sure(plan: &Plan, class: u8) -> Result<Ticks, Refusal>
     ensures { ByClass class result (λ n. n.0 ≡ sure_ticks_of (contents plan.now) class) }
 {
-    let class = u8::from(Class::try_from(class)?);
-    let found = find(plan, class);
-    Ok(Ticks(total_length(found.as_slice())))
+    Ok(ClassSlots::of(plan, class)?.sure)
 }
 
 // The block of a class: how much of a lower frame can be on the wire when a busy period of the class begins. Refused where there is
@@ -51,13 +47,7 @@ pub fn sure(plan: &Plan, class: u8) -> Result<Ticks, Refusal>
 pub fn block(plan: &Plan, class: u8) -> Result<Ticks, Refusal>
     ensures { ByClass class result (λ n. n.0 ≡ block_of (contents plan.now) class) }
 {
-    let class = u8::from(Class::try_from(class)?);
-    let found = find(plan, class);
-    let frames = FramesInSlots {
-        plan,
-        slots: found.as_slice(),
-    };
-    Ok(Ticks(greatest_below(&frames, class)))
+    Ok(ClassSlots::of(plan, class)?.block)
 }
 
 // Writes slots into the list from its beginning on.
@@ -71,12 +61,4 @@ fn write(slots: &[Slot], list: &mut [u32])
         list[2 * i] = slot.begin.0 as u32;
         list[2 * i + 1] = slot.length.0 as u32;
     }
-}
-
-// The lengths of slots, added.
-fn total_length(slots: &[Slot]) -> u64
-    requires { lengths slots.now ≤ most_cycle }
-    ensures { result ≡ lengths slots.now }
-{
-    slots.iter().map(|slot| slot.length.0).sum()
 }

@@ -3,6 +3,7 @@
 
 mod blocking;
 mod calls;
+mod class_slots;
 mod find;
 mod lower;
 mod runs;
@@ -10,4 +11,5 @@ mod slot_list;
 mod walk;
 
 pub use calls::{MIN_LIST, block, slots, sure};
+pub use class_slots::ClassSlots;
 pub use slot_list::SlotList;

@@ -1,4 +1,4 @@
-use Rattle.std.proofs.Common.{arith}
+use Rattle.std.proofs.Common.{ap, arith}
 use Rattle.plan.specs.PlanContents.{contents}
 use Rattle.class_bound.proofs.Flows.{by_search}
 use Rattle.class_bound.proofs.bound_under.Goals as goal
@@ -7,4 +7,4 @@ pub returns : goal.returns
 returns g c =
     let s = c.in_ok-service.ensures in
     rw c.ok_or.ensures.value
-    (by_search (contents c.args.plan.now) c.args.class _ _ s.0 (omega (arith, c.if-branch-eq0.false, c.in_ok-sure.ensures.1)) s.1 c.bound_over.result c.bound_over.ensures)
+    (by_search (contents c.args.plan.now) c.args.class _ _ s.0 (omega (arith, c.if-sure-eq0.false, s.1.1, ap (λ t. t.0) c.sure.ensures)) s.1.0 c.bound_over.result c.bound_over.ensures)

@@ -4,6 +4,7 @@ ghost use Rattle.units.specs.Classes.{ByClass};
 ghost use Rattle.curve.specs.Table.{table_of};
 ghost use Rattle.plan.specs.PlanContents.{contents};
 ghost use Rattle.slots.specs.Listed.{items};
+ghost use Rattle.slots.specs.OfPlan.{sure_ticks_of};
 ghost use Rattle.service.specs.Served.{served_by};
 ghost use Rattle.service.specs.ServiceLaws.{service_laws};
 ghost use Rattle.service.specs.CurveOfPlan.{curve_of};
@@ -11,7 +12,7 @@ ghost use Rattle.service.specs.CurveOfPlan.{curve_of};
 use crate::class_service::ClassService;
 use crate::table::table;
 use plan::Plan;
-use slots::{SlotList, block, sure};
+use slots::ClassSlots;
 use std::alloc::AllocError;
 use supply::Supply;
 use units::limits::MAX_SPAN;
@@ -20,20 +21,26 @@ use units::{Bytes, Refusal, Ticks};
 impl ClassService {
     // The service of a class of a plan. Refused where there is no such class.
     pub fn of(plan: &Plan, class: u8) -> Result<ClassService, Refusal>
-        ensures { ByClass class result (λ s. (n : ℕ) → served_by s.cycle.0 (items s.slots) s.block.0 n ≡ curve_of (contents plan.now) class n) }
+        ensures { ByClass class result (λ s. ((n : ℕ) → served_by s.cycle.0 (items s.slots) s.block.0 n ≡ curve_of (contents plan.now) class n)
+            × (s.sure.0 ≡ sure_ticks_of (contents plan.now) class)) }
     {
-        let slots = SlotList::of(plan, class)?;
-        let sure_ticks = sure(plan, class)?;
-        let blocking = block(plan, class)?;
+        let ClassSlots { slots, sure, block } = ClassSlots::of(plan, class)?;
         let cycle = plan.gates().cycle();
-        let marks = table(cycle.0, slots.as_slice(), sure_ticks.0);
+        let marks = table(cycle.0, slots.as_slice(), sure.0);
         Ok(ClassService {
             cycle,
-            sure: sure_ticks,
-            block: blocking,
+            sure,
+            block,
             slots,
             marks,
         })
+    }
+
+    // How many ticks of a cycle are sure for the class.
+    pub fn sure(&self) -> Ticks
+        ensures { result ≡ self.now.sure }
+    {
+        self.sure
     }
 }
 

@@ -1,4 +1,4 @@
-use Rattle.std.proofs.Common.{◌≡◌, ℕ, ◌-◌, length, vec_items, sym, ap, ◌∙◌, subst, arith}
+use Rattle.std.proofs.Common.{◌≡◌, ℕ, ◌-◌, vec_items, sym, ap, ◌∙◌, subst, arith}
 use Rattle.gates.specs.declared.gate_list.GateList.{GateList}
 use Rattle.gates.specs.Opened.{opened}
 use Rattle.plan.specs.PlanContents.{contents}
@@ -21,17 +21,17 @@ pub table-marks-requires-clause-apart : goal.table-marks-requires-clause-apart
 table-marks-requires-clause-apart c =
     let p = c.args.plan.now in
     let n = same_cycle c.cycle-cycle.result.0 _ _ (ap (λ t. t.0) c.cycle-cycle.ensures) c.gates.ensures in
-    subst (λ v. Apart v c.as_slice.result.now) (sym n) (plan_apart p c.args.class c.as_slice.result.now (c.as_slice.ensures ∙ c.in_ok-slots.ensures.1))
+    subst (λ v. Apart v c.as_slice.result.now) (sym n) (plan_apart p c.args.class c.as_slice.result.now (c.as_slice.ensures ∙ c.in_ok-slots.ensures.1.0))
 
 pub table-marks-requires-clause-whole : goal.table-marks-requires-clause-whole
-table-marks-requires-clause-whole c = c.in_ok-sure_ticks.ensures.1 ∙ sym (plan_sure c.args.plan.now c.args.class c.as_slice.result.now (c.as_slice.ensures ∙ c.in_ok-slots.ensures.1))
+table-marks-requires-clause-whole c = c.in_ok-slots.ensures.1.1 ∙ sym (plan_sure c.args.plan.now c.args.class c.as_slice.result.now (c.as_slice.ensures ∙ c.in_ok-slots.ensures.1.0))
 
 pub invariant_of-result : goal.invariant_of-result
 invariant_of-result c =
     let p = c.args.plan.now in
     let n = same_cycle c.cycle-cycle.result.0 _ _ (ap (λ t. t.0) c.cycle-cycle.ensures) c.gates.ensures in
-    let e = c.in_ok-slots.ensures.1 in
-    let ss = items c.in_ok-slots.slots in
+    let e = c.in_ok-slots.ensures.1.0 in
+    let ss = items c.in_ok-slots.field-0.slots in
     let some = cycle_some _ _ p.gates.lawful in
     let b = plan_block p c.args.class in
     record {
@@ -41,8 +41,8 @@ invariant_of-result c =
         short = omega (arith, n, p.gates.lawful.most);
         table = c.table-marks.ensures ∙ ap (table_of c.cycle-cycle.result.0) c.as_slice.ensures;
       };
-      whole = c.in_ok-sure_ticks.ensures.1 ∙ sym (plan_sure p c.args.class ss e);
-      low = omega (arith, c.in_ok-blocking.ensures.1);
+      whole = c.in_ok-slots.ensures.1.1 ∙ sym (plan_sure p c.args.class ss e);
+      low = omega (arith, c.in_ok-slots.ensures.1.2);
     }
 
 pub returns : goal.returns
@@ -53,13 +53,16 @@ returns c =
     let o = opened (vec_items p.gates.lines) in
     let M : ℕ → ℕ = longest (contents p) in
     let k = c.args.class in
-    let s = c.in_ok-slots.slots in
-    let b = c.in_ok-blocking.blocking.0 in
+    let s = c.in_ok-slots.field-0.slots in
+    let b = c.in_ok-slots.field-0.block.0 in
     let n = same_cycle c.cycle-cycle.result.0 _ _ (ap (λ t. t.0) c.cycle-cycle.ensures) c.gates.ensures in (
       c.in_ok-slots.ensures.0,
-      λ d.
-          ap (λ v. least_covered v (items s) d - b) n
-          ∙ ap (λ ss. least_covered L ss d - b) c.in_ok-slots.ensures.1
-          ∙ ap (λ v. least_covered L (slots_of (contents p) k) d - v) c.in_ok-blocking.ensures.1
-          ∙ ap (λ v. v - block L o M k) (sym (sure_least L o M k d)),
+      (
+        λ d.
+            ap (λ v. least_covered v (items s) d - b) n
+            ∙ ap (λ ss. least_covered L ss d - b) c.in_ok-slots.ensures.1.0
+            ∙ ap (λ v. least_covered L (slots_of (contents p) k) d - v) c.in_ok-slots.ensures.1.2
+            ∙ ap (λ v. v - block L o M k) (sym (sure_least L o M k d)),
+        c.in_ok-slots.ensures.1.1,
+      ),
     )

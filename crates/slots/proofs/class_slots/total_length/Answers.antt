@@ -1,6 +1,6 @@
 use Rattle.std.proofs.Common.{rules}
 use Rattle.sure_ticks.specs.Sure.{lengths}
-use Rattle.slots.proofs.calls.total_length.Goals as goal
+use Rattle.slots.proofs.class_slots.total_length.Goals as goal
 
 pub sum-requires-clause-fits : goal.sum-requires-clause-fits
 unfolding lengths
