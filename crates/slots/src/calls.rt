@@ -19,7 +19,7 @@ pub const MIN_LIST: usize = 2 * MAX_SLOTS;
 
 // Writes the slots of a class into the list, beginning and length by turns and by rising beginning, and answers how many there are.
 // The rest of the list stays as it is. Refused where there is no such class, and where the list has under 64 numbers; all of the
-// list stays as it is then.
+// list stays as it is then. That the list is lent, and of numbers, is a rule of the project.
 pub fn slots(plan: &Plan, class: u8, list: &mut [u32]) -> Result<usize, Refusal>
     ensures { MatchResult result
         (λ n. (class ≤ 7) × (2 * most_slots ≤ length list.old) × (n ≡ length (slots_of (contents plan.now) class))

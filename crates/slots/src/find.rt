@@ -30,7 +30,7 @@ impl SlotList {
 }
 
 // The slots of a class. One that begins past the cycle's end begins in the next cycle before all others, and so comes first. A struct
-// of the plan and the class would say no more than the two do, which every public call is asked with.
+// of the plan and the class would say no more than the two do, which every public call is asked with. The class is any number here: none above 7 has a slot.
 pub(crate) fn find(plan: &Plan, class: u8) -> SlotList
     ensures { items result ≡ slots_of (contents plan.now) class }
 {

@@ -44,7 +44,8 @@ impl ClassService {
     }
 }
 
-// Another service that supplies the same. It cannot fail. It is by hand, since a struct with a ghost field derives none.
+// Another service that supplies the same. It cannot fail. It is by hand, since a struct with a ghost field derives no
+// `Clone` where it is no `Copy`.
 impl Clone for ClassService {
     ghost is_clone = { λ s t. (t.cycle ≡ s.cycle) × (t.sure ≡ s.sure) × (t.block ≡ s.block) × (items t.slots ≡ items s.slots) × (t.marks.items ≡ s.marks.items) };
 
