@@ -4,6 +4,7 @@
 
 use anyhow::{Context, anyhow};
 use plan::Plan;
+use plan_input::read_plan;
 use service::ClassService;
 use std::alloc::{AllocError, Global};
 use supply::Supply;
@@ -57,11 +58,9 @@ fn answer(rt: &HostRuntime, plan: &Plan, line: &str) -> anyhow::Result<()> {
 // A plan with as many gate lines, as long a cycle and as many slots of a class as there can be.
 fn full_plan(heap: Global) -> anyhow::Result<Plan> {
     let text = plan_text(heap)?;
-    let mut plan = Plan::new(heap)?;
-    plan.read(text.as_bytes())
+    read_plan(heap, text.as_bytes())
         .ok()
-        .context("the plan is refused")?;
-    Ok(plan)
+        .context("the plan is refused")
 }
 
 // Class 7 opens and shuts by turns over class 0, which never shuts, so that each slot begins behind a wait.

@@ -6,7 +6,8 @@ ghost use Rattle.units.specs.declared.refusal.Refusal.TheVariants.{BeyondReach, 
 use units::limits::FLOW_REACH;
 use units::{Refusal, Ticks};
 
-// Refused where the number is not one of `least` to `most`: two numbers, since a range would be made for each call only to be taken apart.
+// Refused where the number is not one of `least` to `most`: two numbers, since a range also says whether it is used up, which the clause
+// would have to rule out.
 pub(crate) fn in_range(number: u64, least: u64, most: u64) -> Result<(), Refusal>
     ensures { MatchResult result (λ _. (least ≤ number) × (number ≤ most)) (λ e. (e ≡ FlowRange) × ((number < least) ⊎ (most < number))) }
 {

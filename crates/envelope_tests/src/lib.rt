@@ -6,7 +6,7 @@ mod tests {
     use arrivals::class_envelope;
     use envelope::{AllOf, Bucket, Envelope, Periodic, Sum, total};
     use flat_envelope::Flat;
-    use plan::Plan;
+    use plan_input::read_plan;
     use plan_tests::WORKED;
     use std::process::Abort;
     use std::test::Fail;
@@ -27,16 +27,8 @@ mod tests {
 
     // The span is beyond the reach of the envelope.
     fn check_beyond<E: Envelope>(rt: &impl Abort, envelope: &E, span: u64) -> Result<(), Fail> {
-        match envelope.at(Ticks(span)) {
-            Ok(_) => {
-                assert!(rt; false);
-                Ok(())
-            },
-            Err(refusal) => {
-                assert_eq!(rt; refusal, Refusal::BeyondReach);
-                Ok(())
-            },
-        }
+        assert_eq!(rt; envelope.at(Ticks(span)), Err(Refusal::BeyondReach));
+        Ok(())
     }
 
     fn bucket(burst: u64, num: u64, den: u64) -> Result<Bucket, Refusal> {
@@ -152,8 +144,7 @@ mod tests {
 
     #[test]
     fn flows_of_a_class_of_the_worked_plan(rt: HostRuntime) -> Result<(), Fail> {
-        let mut plan = Plan::new(rt.alloc())?;
-        plan.read(WORKED)?;
+        let plan = read_plan(rt.alloc(), WORKED)?;
         check_loads(
             &rt,
             &class_envelope(&plan, 7)?,

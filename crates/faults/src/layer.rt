@@ -13,7 +13,8 @@ pub enum Layer {
 }
 
 impl Layer {
-    // The word for the layer: field, line or plan. This is where `Display` has it from; a case for each word is a rule of the project.
+    // The word for the layer: field, line or plan. `Display` has it from here. A case for each word, here and where
+    // it is read, is a rule of the project.
     pub fn word(self) -> &'static str
         ensures { result.now ≡ layer_word self }
     {

@@ -28,7 +28,8 @@ pub fn read_input(rt: &HostRuntime) -> io::Result<Vec<u8>>
 {
     let mut text = Vec::new(rt.alloc());
     let mut input = rt.stdin();
-    // To the end of the input, which comes before so many turns: a `for`, since a loop has to end.
+    // To the end of the input, which comes before so many turns. `take` with `read_to_end` would stop where the text is too long, and cut
+    // off whoever writes it.
     for _ in 0..u64::MAX {
         let mut chunk = [0u8; 4096];
         let n = input.read(&mut chunk)?;

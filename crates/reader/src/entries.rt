@@ -14,7 +14,7 @@ use text::Key;
 use units::Bytes;
 
 impl Reader<'_> {
-    // The number on the next line, from `least` to `most`.
+    // The number on the next line, from `least` to `most`, which are two numbers as for a field.
     #[tactic(auto, unfolding(crate::specs::Entries::number_line))]
     pub(crate) fn number_line(&mut self, due: Key, least: u64, most: u64) -> Result<u64, LineFault>
         ensures value { result ≡ number_line self.old.line due least most self.old.rest.now }

@@ -39,7 +39,8 @@ impl<'a> Fields<'a> {
         numeral(field).ok_or(FieldFault::Form(self.line))
     }
 
-    // The number in the next field, from `least` to `most`: two numbers, since a range would be made for each call only to be taken apart.
+    // The number in the next field, from `least` to `most`: two numbers, since a range also says whether it is used up, which each clause
+    // would have to rule out.
     #[tactic(auto, unfolding(crate::specs::Fields::number_field))]
     pub(crate) fn number(&mut self, least: u64, most: u64) -> Result<u64, FieldFault>
         ensures value { result ≡ number_field self.old.line least most (before comma self.old.rest.now) }
@@ -53,7 +54,8 @@ impl<'a> Fields<'a> {
         Ok(n)
     }
 
-    // The class in the next field. A plain number, since the field's range check has just made it 0 to 7: `Class` would check it again.
+    // The class in the next field. A plain number: to make a `Class` of what the field's range check has just made 0 to 7
+    // would take a branch that never runs, and be no plainer.
     pub(crate) fn class(&mut self) -> Result<u8, FieldFault>
         ensures value { result ≡ number_field self.old.line 0 7 (before comma self.old.rest.now) }
         ensures bound { IfOk result (λ c. c ≤ 7) }
@@ -62,8 +64,7 @@ impl<'a> Fields<'a> {
         Ok(self.number(0, 7)? as u8)
     }
 
-    // The kind of flow that the letter in the next field picks. Letters are read in one place each, here and in `read_gates`: a conversion
-    // would need an error type of its own in place of the fault.
+    // The kind of flow that the letter in the next field picks. A case for each letter, here and in `read_gates`, is a rule of the project.
     pub(crate) fn kind(&mut self) -> Result<Kind, FieldFault>
         ensures value { result ≡ kind_in self.old.line (before comma self.old.rest.now) }
         ensures past { PastField self.old self.new }
@@ -131,10 +132,10 @@ impl<'a> Fields<'a> {
         let burst = self.number(MIN_BURST, MAX_BURST)?;
         let num = self.numeral()?;
         let den = self.number(1, MAX_RATE_TICKS)?;
-        match Bucket::new(Bytes(burst), Bytes(num), Ticks(den)) {
-            Ok(bucket) => Ok(Flow::Bucket(bucket)),
-            Err(_) => Err(FieldFault::Range(self.line)),
-        }
+        let line = self.line;
+        Bucket::new(Bytes(burst), Bytes(num), Ticks(den))
+            .map(Flow::Bucket)
+            .map_err(|_| FieldFault::Range(line))
     }
 
     // The numbers of a periodic flow, whose frames are no longer than the largest of its class.
@@ -145,10 +146,10 @@ impl<'a> Fields<'a> {
         let bytes = self.number(MIN_FRAME, traffic.largest().0)?;
         let period = self.number(1, MAX_PERIOD)?;
         let jitter = self.numeral()?;
-        match Periodic::new(Bytes(bytes), Ticks(period), Ticks(jitter)) {
-            Ok(periodic) => Ok(Flow::Periodic(periodic)),
-            Err(_) => Err(FieldFault::Range(self.line)),
-        }
+        let line = self.line;
+        Periodic::new(Bytes(bytes), Ticks(period), Ticks(jitter))
+            .map(Flow::Periodic)
+            .map_err(|_| FieldFault::Range(line))
     }
 }
 

@@ -37,26 +37,31 @@ fn run(rt: &HostRuntime) -> anyhow::Result<()> {
     Ok(())
 }
 
-// A line of the table: the answer that is due, what the case shows, and the bytes in the place of a line of the base text.
+// A line of the table: the answer that is due, what the case shows, and the bytes in the place of a line of the base text, if they are
+// not a text of their own.
 #[derive(Clone, Copy)]
 struct Case<'a> {
     due: &'a str,
     title: &'a str,
-    place: usize,
+    place: Option<usize>,
     written: &'a str,
 }
 
 impl<'a> Case<'a> {
     fn read(line: &'a str) -> anyhow::Result<Case<'a>> {
         let mut parts = line.split('\t');
+        let due = parts.next().context("a case has an answer")?;
+        let title = parts.next().context("a case has a title")?;
+        let number = parts
+            .next()
+            .context("a case has a line number")?
+            .parse::<usize>()?;
+        let written = parts.next().context("a case has a text")?;
         Ok(Case {
-            due: parts.next().context("a case has an answer")?,
-            title: parts.next().context("a case has a title")?,
-            place: parts
-                .next()
-                .context("a case has a line number")?
-                .parse::<usize>()?,
-            written: parts.next().context("a case has a text")?,
+            due,
+            title,
+            place: (number > 0).then_some(number),
+            written,
         })
     }
 }
@@ -78,15 +83,15 @@ fn holds(
     Ok(false)
 }
 
-// The base text with other bytes in the place of one line; those bytes alone where the place is 0.
+// The base text with other bytes in the place of one line; those bytes alone where there is no place.
 fn text_of(heap: Global, base: &[String], case: Case<'_>) -> Result<Vec<u8>, AllocError> {
     let mut text = Vec::new(heap);
-    if case.place == 0 {
+    let Some(place) = case.place else {
         add_written(&mut text, case.written)?;
         return Ok(text);
-    }
+    };
     for (number, line) in (1..).zip(base) {
-        if number == case.place {
+        if number == place {
             add_written(&mut text, case.written)?;
         } else {
             text.extend_from_slice(line.as_bytes())?;

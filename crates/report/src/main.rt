@@ -10,7 +10,8 @@ fn main(rt: HostRuntime) -> anyhow::Result<()> {
     run(&rt)
 }
 
-// Both programs begin so. One function for them would take what each prints as a closure and promise nothing of it, and be no plainer.
+// Both programs have this and `print_plan`. By a rule of the project a function that they share has a clause on its result, and no
+// clause can name what is read and printed.
 fn run(rt: &HostRuntime) -> anyhow::Result<()> {
     let text = read_input(rt)?;
     match read_plan(rt.alloc(), text.as_slice()) {

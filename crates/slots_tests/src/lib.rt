@@ -145,8 +145,8 @@ mod tests {
         assert_eq!(rt; slots(&plan, 7, &mut list), Err(Refusal::SlotSpace));
         assert_eq!(rt; list[0], 77);
         assert_eq!(rt; list[1], 77);
-        assert_eq!(rt; sure(&plan, 8).is_ok(), false);
-        assert_eq!(rt; block(&plan, 255).is_ok(), false);
+        assert_eq!(rt; sure(&plan, 8), Err(Refusal::NoClass));
+        assert_eq!(rt; block(&plan, 255), Err(Refusal::NoClass));
         Ok(())
     }
 }

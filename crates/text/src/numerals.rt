@@ -16,8 +16,8 @@ pub fn numeral(text: &[u8]) -> Option<u64>
     }
 }
 
-// The number that at most 7 digits write; None where a byte is no digit. A `for`, since the closure of a `try_fold` would not know how many
-// digits came before, which bounds the number so far.
+// The number that at most 7 digits write; None where a byte is no digit. A `for`: the closure of a `try_fold`
+// would have to check each step for a number that is too large, which cannot be, and be no plainer.
 fn digits(text: &[u8]) -> Option<u64>
     requires { length text.now ≤ most_numeral }
     ensures { result ≡ digits_from 0 text.now }

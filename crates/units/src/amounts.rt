@@ -1,6 +1,6 @@
 // Time is told in ticks and load in bytes. A sum stays within one kind: only a curve or an envelope leads from one to the other. By a
 // rule of the project the two are structs around a number; one generic struct would not be made by their names, as `Ticks(5)` is, so
-// sums and printing are written for each.
+// sums are written for each, and so is printing, which no derive writes for a number in a struct.
 ghost use Rattle.std.specs.Prelude.{◌≡◌, ◌+◌, ◌^◌, ◌<◌, Some, decimal};
 
 use std::fmt;
