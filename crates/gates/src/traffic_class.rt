@@ -46,6 +46,7 @@ impl TrafficClass {
     }
 
     // For how many ticks its largest frame holds the wire: 0 for a class that sends nothing.
+    #[tactic(auto, unfolding(crate::specs::Sizes::hold))]
     pub fn hold(&self) -> Ticks
         ensures { result.0 ≡ hold self.now.largest.0 }
     {

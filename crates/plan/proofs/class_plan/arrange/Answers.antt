@@ -1,4 +1,4 @@
-use Rattle.std.proofs.Common.{◌≡◌, ◌-◌, ◌++◌, map, get_or, drop, vec_items, sym, ap, ◌∙◌, subst, arith}
+use Rattle.std.proofs.Common.{◌≡◌, ◌-◌, ◌++◌, map, get_or, vec_items, sym, ap, ◌∙◌, subst, arith}
 use Rattle.reader.specs.Views.{entry_of}
 use Rattle.plan.specs.Arranged.{groups}
 use Rattle.plan.specs.ByClass.{entries_down, sizes_up}
@@ -21,11 +21,7 @@ loop-class-preserved c =
       len = omega (arith, put.len, so.len);
     }
 
-pub returns : goal.returns
-returns c =
+pub returns-clause-flows : goal.returns-clause-flows
+returns-clause-flows c =
     let so = c.loop-class.invariant in
-    let z : c.loop-class.class ≡ 0 = omega arith in
-    record {
-      sizes = so.sizes ∙ ap (λ n. drop n c.args.sizes.now) z;
-      flows = (omega (arith, so.len), groups_end c.loop-class.class (map entry_of c.args.flows.now) _ z so.flows);
-    }
+    (omega (arith, so.len), groups_end c.loop-class.class (map entry_of c.args.flows.now) _ (omega arith) so.flows)

@@ -1,17 +1,11 @@
-use Rattle.std.proofs.Common.{refl}
 use Rattle.std.proofs.lemmas.Result.{err_from_is_err_and}
 use Rattle.plan.proofs.Outcomes.{read_outcome, read_written, read_accepted, only_memory}
 use Rattle.plan.proofs.plan.Plan.read.Goals as goal
 
-pub returns-in_err-parsed : goal.returns-in_err-parsed
-returns-in_err-parsed c =
+pub returns-in_err-parsed-clause-accepted : goal.returns-in_err-parsed-clause-accepted
+returns-in_err-parsed-clause-accepted c =
     let p = err_from_is_err_and c.from_residual.result c.from_residual.ensures.1 in
-    let why = c.in_err-parsed.ensures in
-    record {
-      outcome = rw (p.1, p.2) (refl, why);
-      written = rw p.1 tt;
-      accepted = λ u h. rw (p.1, p.2) (only_memory _ _ why u h);
-    }
+    λ u h. rw (p.1, p.2) (only_memory _ _ c.in_err-parsed.ensures u h)
 
 pub returns : goal.returns
 returns c =
