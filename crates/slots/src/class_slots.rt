@@ -17,7 +17,7 @@ use units::{Class, Refusal, Ticks};
 
 // The slots of a class, how many ticks of a cycle are sure for it, and its block: how much of a lower frame can be on the wire when
 // a busy period of the class begins.
-#[derive(Clone, Drop)]
+#[derive(Clone, Copy)]
 pub struct ClassSlots {
     pub slots: SlotList,
     pub sure: Ticks,
