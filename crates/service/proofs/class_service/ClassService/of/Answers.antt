@@ -1,4 +1,4 @@
-use Rattle.std.proofs.Common.{◌≡◌, ℕ, ◌-◌, vec_items, sym, ap, ◌∙◌, subst, arith}
+use Rattle.std.proofs.Common.{◌≡◌, ℕ, ◌+◌, ◌-◌, ◌*◌, length, take, vec_items, sym, ap, ◌∙◌, subst, arith}
 use Rattle.gates.specs.declared.gate_list.GateList.{GateList}
 use Rattle.gates.specs.Opened.{opened}
 use Rattle.plan.specs.PlanContents.{contents}
@@ -10,6 +10,7 @@ use Rattle.curve.proofs.Least.{sure_least}
 use Rattle.slots.specs.OfPlan.{longest, slots_of}
 use Rattle.slots.specs.Listed.{items}
 use Rattle.slots.proofs.Walks.{cycle_some}
+use Rattle.slots.proofs.Gathers.{counted}
 use Rattle.slots.proofs.OfPlans.{plan_apart, plan_sure, plan_block}
 use Rattle.service.proofs.class_service.ClassService.of.Goals as goal
 
@@ -26,6 +27,9 @@ table-marks-requires-clause-apart c =
 pub table-marks-requires-clause-whole : goal.table-marks-requires-clause-whole
 table-marks-requires-clause-whole c = c.in_ok-slots.ensures.1.1 ∙ sym (plan_sure c.args.plan.now c.args.class c.as_slice.result.now (c.as_slice.ensures ∙ c.in_ok-slots.ensures.1.0))
 
+pub table-marks-requires-clause-few : goal.table-marks-requires-clause-few
+table-marks-requires-clause-few c = let s = c.in_ok-slots.field-0.slots in omega (arith, ap length c.as_slice.ensures, counted s, s.few)
+
 pub invariant_of-result : goal.invariant_of-result
 invariant_of-result c =
     let p = c.args.plan.now in
@@ -35,11 +39,12 @@ invariant_of-result c =
     let some = cycle_some _ _ p.gates.lawful in
     let b = plan_block p c.args.class in
     record {
+      room = c.table-marks.ensures.room;
       ready = record {
         apart = subst (λ v. Apart v ss) (sym n) (plan_apart p c.args.class ss e);
         some = omega arith;
         short = omega (arith, n, p.gates.lawful.most);
-        table = c.table-marks.ensures ∙ ap (table_of c.cycle-cycle.result.0) c.as_slice.ensures;
+        table = subst (λ xs. take (2 * length xs + 1) c.table-marks.result ≡ table_of c.cycle-cycle.result.0 xs) c.as_slice.ensures c.table-marks.ensures.table;
       };
       whole = c.in_ok-slots.ensures.1.1 ∙ sym (plan_sure p c.args.class ss e);
       low = omega (arith, c.in_ok-slots.ensures.1.2);
