@@ -1,4 +1,5 @@
-// The slots of a class with what they come to, found in one pass.
+// The slots of a class with what they come to, found in one pass. The call takes a plan and the number of a class, since a struct of
+// the two would be made for each call and taken apart at once.
 ghost use Rattle.std.specs.Prelude.{◌≡◌, ◌≤◌};
 ghost use Rattle.units.specs.Limits.{most_cycle};
 ghost use Rattle.units.specs.Classes.{ByClass};

@@ -27,7 +27,8 @@ impl SlotList {
 }
 
 // The slots of a class. One that begins past the cycle's end begins in the next cycle before all others, and so comes first. A struct
-// of the plan and the class would say no more than the two do, which every public call is asked with.
+// of the plan and the class would say no more than the two do, which every public call is asked with. The class is a number here, and
+// none above 7 has a slot: a `Class` would have to be made anew of each lower number, with a branch that is never taken.
 pub(crate) fn find(plan: &Plan, class: u8) -> SlotList
     ensures { items result ≡ slots_of (contents plan.now) class }
 {

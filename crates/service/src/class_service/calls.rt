@@ -1,4 +1,5 @@
-// Making the service of a class, and what it supplies.
+// Making the service of a class, and what it supplies. It is made of a plan and the number of a class, since a struct of the two
+// would be made for each call and taken apart at once.
 ghost use Rattle.std.specs.Prelude.{◌≡◌, ℕ, ◌+◌, ◌*◌, ◌≤◌};
 ghost use Rattle.units.specs.Classes.{ByClass};
 ghost use Rattle.curve.specs.Table.{table_of};
