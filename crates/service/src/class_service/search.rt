@@ -69,7 +69,7 @@ impl ClassService {
 
 // The mark from `from` on behind which something comes: the marks that follow are passed while the test says that they are before it,
 // as the last one never is. The index is counted by hand for speed: `take_while` asks at each mark whether it is the last, and the
-// inverse took 298 ns a query in place of 210, where bench/README.md allows a tenth more.
+// inverse took 298 ns a query in place of 210.
 fn reach<B: Fn(&Mark) -> bool>(marks: &[Mark], from: usize, is_before: B) -> usize
     requires callable { (test : B) (mark : _) → B.pre test mark }
     requires there { from + 1 < length marks.now }

@@ -10,7 +10,6 @@ use Rattle.curve.proofs.Least.{sure_least}
 use Rattle.slots.specs.OfPlan.{longest, slots_of}
 use Rattle.slots.specs.Listed.{items}
 use Rattle.slots.proofs.Walks.{cycle_some}
-use Rattle.slots.proofs.Gathers.{counted}
 use Rattle.slots.proofs.OfPlans.{plan_apart, plan_sure, plan_block}
 use Rattle.service.proofs.class_service.ClassService.of.Goals as goal
 
@@ -26,9 +25,6 @@ table-marks-requires-clause-apart c =
 
 pub table-marks-requires-clause-whole : goal.table-marks-requires-clause-whole
 table-marks-requires-clause-whole c = c.in_ok-slots.ensures.1.1 ∙ sym (plan_sure c.args.plan.now c.args.class c.as_slice.result.now (c.as_slice.ensures ∙ c.in_ok-slots.ensures.1.0))
-
-pub table-marks-requires-clause-few : goal.table-marks-requires-clause-few
-table-marks-requires-clause-few c = let s = c.in_ok-slots.field-0.slots in omega (arith, ap length c.as_slice.ensures, counted s, s.few)
 
 pub invariant_of-result : goal.invariant_of-result
 invariant_of-result c =
