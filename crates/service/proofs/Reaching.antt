@@ -1,5 +1,5 @@
 -- Where an amount comes among the marks of a service. Assumes nothing.
-use Rattle.std.proofs.Common.{◌≡◌, ℕ, ◌+◌, ◌<◌, ◌≤◌, ◌⊎◌, Bool, true, false, Bor, List, length, get_or, ltb, sym, subst, inl, inr}
+use Rattle.std.proofs.Common.{◌≡◌, ℕ, ◌+◌, ◌*◌, ◌<◌, ◌≤◌, ◌⊎◌, Bool, true, false, Bor, List, length, get_or, take, ltb, sym, subst, inl, inr}
 use Rattle.std.specs.Fn.{Shared, FnReturnsAt}
 use Rattle.std.proofs.lemmas.Bool.{ltb-true, ltb-false}
 use Rattle.sure_ticks.specs.declared.slot.Slot.{Slot}
@@ -40,9 +40,9 @@ module _ {F : Type 0} (g : Shared F (Bor Mark × Unit {0}) Bool) (f : F) (key : 
       }
 
 -- the table of a service, in lists that are its slots and its marks
-pub ready_of : (s : ClassService) (ss : List Slot) (ms : List Mark) → ss ≡ items s.slots → ms ≡ s.marks.items → Ready s.cycle.0 ss ms
+pub ready_of : (s : ClassService) (ss : List Slot) (ms : List Mark) → ss ≡ items s.slots → ms ≡ take (2 * length (items s.slots) + 1) s.marks → Ready s.cycle.0 ss ms
 ready_of s ss ms e f = subst (λ xs. Ready s.cycle.0 xs ms) (sym e) (subst (Ready s.cycle.0 (items s.slots)) (sym f) s.ready)
 
 -- and what a turn of a loop over the slots reads off it
-pub turn_of : (s : ClassService) (ss : List Slot) (ms : List Mark) → ss ≡ items s.slots → ms ≡ s.marks.items → (j : ℕ) → j < length ss → Turn s.cycle.0 ss ms j (get_or ss j (slot 0 0))
+pub turn_of : (s : ClassService) (ss : List Slot) (ms : List Mark) → ss ≡ items s.slots → ms ≡ take (2 * length (items s.slots) + 1) s.marks → (j : ℕ) → j < length ss → Turn s.cycle.0 ss ms j (get_or ss j (slot 0 0))
 turn_of s ss ms e f j h = turn s.cycle.0 ss ms (ready_of s ss ms e f) j h

@@ -1,4 +1,5 @@
-// What is asked of a plan: the curve of a class.
+// What is asked of a plan: the curve of a class. The call takes a plan and the number of a class, since a struct of the two would be
+// made for each call and taken apart at once.
 ghost use Rattle.std.specs.Prelude.{◌≡◌, ◌≤◌, MatchResult};
 ghost use Rattle.units.specs.Limits.{most_span};
 ghost use Rattle.plan.specs.PlanContents.{contents};

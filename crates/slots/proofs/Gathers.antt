@@ -1,6 +1,6 @@
 -- A walk over all lines that gathers slots. Assumes nothing.
 use Rattle.std.proofs.Common.{◌≡◌, ℕ, ◌+◌, ◌<◌, ◌≤◌, Bool, List, ◌++◌, length, sym, refl, ap, ◌∙◌, arith}
-use Rattle.std.proofs.lemmas.List.{append-nil, append_assoc, length-append}
+use Rattle.std.proofs.lemmas.List.{append-nil, append_assoc, length-append, length-take-le}
 use Rattle.units.specs.Limits.{most_slots}
 use Rattle.gates.specs.declared.gate_line.GateLine.{GateLine}
 use Rattle.gates.specs.Opened.{total, opened, start, line, Lawful}
@@ -8,7 +8,13 @@ use Rattle.gates.proofs.Lines.{start_more, start_all, start_most}
 use Rattle.sure_ticks.specs.Slots.{slot_at, found}
 use Rattle.sure_ticks.proofs.Found.{found_mono}
 use Rattle.sure_ticks.specs.declared.slot.Slot.{Slot}
+use Rattle.slots.specs.declared.slot_list.SlotList.{SlotList}
+use Rattle.slots.specs.Listed.{items}
 use Rattle.slots.proofs.LineRuns.{found_line}
+
+-- a list has as many slots as it counts
+pub counted : (s : SlotList) → s.count ≡ length (items s)
+counted s = sym (length-take-le s.count s.slots (omega (arith, s.few, s.room)))
 
 -- the walk stands before the line i, which begins at the tick a, and has added the slots of the lines before
 pub record Gathered (ls : List GateLine) (cycle : ℕ) (late : Bool) (M : ℕ → ℕ) (c : ℕ) (before : List Slot) (i a : ℕ) (slots : List Slot) : Type 0 where

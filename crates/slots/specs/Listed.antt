@@ -1,5 +1,5 @@
 -- A slot that may be missing, and the slots of a list. Assumes nothing.
-use Rattle.std.specs.Prelude.{List, [], ◌∷◌, Some, None, Option}
+use Rattle.std.specs.Prelude.{List, [], ◌∷◌, take, Some, None, Option}
 use Rattle.sure_ticks.specs.declared.slot.Slot.{Slot}
 use Rattle.slots.specs.declared.slot_list.SlotList.{SlotList}
 
@@ -10,4 +10,4 @@ listed (Some s) = s ∷ []
 
 -- the slots of a list
 abbrev pub items : SlotList → List Slot
-items l = l.slots.items
+items l = take l.count l.slots

@@ -1,4 +1,5 @@
-// What is asked of a plan: the slots of a class, its sure ticks, its block.
+// What is asked of a plan: the slots of a class, its sure ticks, its block. The calls take a plan and the number of a class, since a
+// struct of the two would be made for each call and taken apart at once.
 ghost use Rattle.std.specs.Prelude.{◌≡◌, ◌*◌, ◌<◌, ◌≤◌, ◌++◌, length, drop, MatchResult};
 ghost use Rattle.std.specs.List.{AllByRecursion};
 ghost use Rattle.units.specs.Limits.{most_slots};

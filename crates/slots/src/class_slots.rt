@@ -1,4 +1,5 @@
-// The slots of a class with what they come to, found in one pass.
+// The slots of a class with what they come to, found in one pass. The call takes a plan and the number of a class, since a struct of
+// the two would be made for each call and taken apart at once.
 ghost use Rattle.std.specs.Prelude.{◌≡◌, ◌≤◌};
 ghost use Rattle.units.specs.Limits.{most_cycle};
 ghost use Rattle.units.specs.Classes.{ByClass};
@@ -17,7 +18,7 @@ use units::{Class, Refusal, Ticks};
 
 // The slots of a class, how many ticks of a cycle are sure for it, and its block: how much of a lower frame can be on the wire when
 // a busy period of the class begins.
-#[derive(Clone, Drop)]
+#[derive(Clone, Copy)]
 pub struct ClassSlots {
     pub slots: SlotList,
     pub sure: Ticks,

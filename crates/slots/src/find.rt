@@ -1,6 +1,5 @@
 // Finding the slots of a class: those of all its runs.
 ghost use Rattle.std.specs.Prelude.{◌≡◌, ◌+◌, ◌≤◌, ◌++◌, length};
-ghost use Rattle.arrayvec.specs.ArrayVec.{array_vec_len};
 ghost use Rattle.units.specs.Limits.{most_slots};
 ghost use Rattle.units.specs.Classes.{ByClass};
 ghost use Rattle.gates.specs.Opened.{opened};
@@ -13,10 +12,8 @@ ghost use Rattle.slots.specs.Beginnings.{late};
 use crate::runs::{Beginning, hold};
 use crate::slot_list::SlotList;
 use crate::walk::LineStart;
-use arrayvec::ArrayVec;
 use plan::Plan;
 use sure_ticks::Slot;
-use units::limits::MAX_SLOTS;
 use units::{Class, Refusal, Ticks};
 
 impl SlotList {
@@ -30,13 +27,14 @@ impl SlotList {
 }
 
 // The slots of a class. One that begins past the cycle's end begins in the next cycle before all others, and so comes first. A struct
-// of the plan and the class would say no more than the two do, which every public call is asked with. The class is any number here: none above 7 has a slot.
+// of the plan and the class would say no more than the two do, which every public call is asked with. The class is a number here, and
+// none above 7 has a slot: a `Class` would have to be made anew of each lower number, with a branch that is never taken.
 pub(crate) fn find(plan: &Plan, class: u8) -> SlotList
     ensures { items result ≡ slots_of (contents plan.now) class }
 {
-    let mut slots = ArrayVec::new();
+    let mut slots = SlotList::empty();
     if hold(plan, class) == 0 {
-        return SlotList { slots };
+        return slots;
     }
     let first = LineStart {
         plan,
@@ -48,17 +46,17 @@ pub(crate) fn find(plan: &Plan, class: u8) -> SlotList
             begin: Ticks(0),
             length: Ticks(first.cycle()),
         });
-        return SlotList { slots };
+        return slots;
     }
     gather(plan, class, Beginning::NextCycle, &mut slots);
     gather(plan, class, Beginning::SameCycle, &mut slots);
-    SlotList { slots }
+    slots
 }
 
 // Adds the slots of all runs that begin where they are asked for.
-fn gather(plan: &Plan, class: u8, asked: Beginning, slots: &mut ArrayVec<Slot, MAX_SLOTS>)
-    requires { array_vec_len slots.old + length (found (late asked) plan.now.gates.cycle.0 (opened plan.now.gates.lines.items) (longest (contents plan.now)) class plan.now.gates.cycle.0) ≤ most_slots }
-    ensures { slots.new.items ≡ slots.old.items
+fn gather(plan: &Plan, class: u8, asked: Beginning, slots: &mut SlotList)
+    requires { length (items slots.old) + length (found (late asked) plan.now.gates.cycle.0 (opened plan.now.gates.lines.items) (longest (contents plan.now)) class plan.now.gates.cycle.0) ≤ most_slots }
+    ensures { items slots.new ≡ items slots.old
         ++ found (late asked) plan.now.gates.cycle.0 (opened plan.now.gates.lines.items) (longest (contents plan.now)) class plan.now.gates.cycle.0 }
 {
     let mut tick = 0;

@@ -2,7 +2,8 @@
 ghost use Rattle.std.specs.Prelude.{◌≡◌, ℕ};
 ghost use Rattle.calculus.specs.Searches.{greatest};
 
-// For each class, for how many ticks a frame of it can keep a higher class waiting.
+// For each class, for how many ticks a frame of it can keep a higher class waiting. A closure in its place would need the facts that
+// the two structs carry in clauses of its own, and be no plainer.
 pub(crate) trait Waits {
     ghost waits: { Self → ℕ → ℕ };
 

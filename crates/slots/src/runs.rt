@@ -27,10 +27,7 @@ pub(crate) fn hold(plan: &Plan, class: u8) -> u64
     ensures value { result ≡ longest (contents plan.now) class }
     ensures small { result ≤ hold_limit }
 {
-    match plan.class(class) {
-        Ok(sizes) => sizes.hold().0,
-        Err(_) => 0,
-    }
+    plan.class(class).map_or(0, |sizes| sizes.hold().0)
 }
 
 // The frames that can be on the wire when a run begins with the line.

@@ -1,5 +1,6 @@
-// Making the service of a class, and what it supplies.
-ghost use Rattle.std.specs.Prelude.{⊤, ◌≡◌, ℕ, ◌+◌, ◌*◌, ◌≤◌};
+// Making the service of a class, and what it supplies. It is made of a plan and the number of a class, since a struct of the two
+// would be made for each call and taken apart at once.
+ghost use Rattle.std.specs.Prelude.{◌≡◌, ℕ, ◌+◌, ◌*◌, ◌≤◌};
 ghost use Rattle.units.specs.Classes.{ByClass};
 ghost use Rattle.curve.specs.Table.{table_of};
 ghost use Rattle.plan.specs.PlanContents.{contents};
@@ -13,7 +14,6 @@ use crate::class_service::ClassService;
 use crate::table::table;
 use plan::Plan;
 use slots::ClassSlots;
-use std::alloc::AllocError;
 use supply::Supply;
 use units::limits::MAX_SPAN;
 use units::{Bytes, Refusal, Ticks};
@@ -41,24 +41,6 @@ impl ClassService {
         ensures { result ≡ self.now.sure }
     {
         self.sure
-    }
-}
-
-// Another service that supplies the same. It cannot fail. It is by hand, since a struct with a ghost field derives no
-// `Clone` where it is no `Copy`.
-impl Clone for ClassService {
-    ghost is_clone = { λ s t. (t.cycle ≡ s.cycle) × (t.sure ≡ s.sure) × (t.block ≡ s.block) × (items t.slots ≡ items s.slots) × (t.marks.items ≡ s.marks.items) };
-
-    ghost is_infallible = { λ _. ⊤ };
-
-    fn clone(&self) -> Result<Self, AllocError> {
-        Ok(ClassService {
-            cycle: self.cycle,
-            sure: self.sure,
-            block: self.block,
-            slots: self.slots.clone()?,
-            marks: self.marks.clone()?,
-        })
     }
 }
 

@@ -9,6 +9,7 @@ use Rattle.sure_ticks.specs.Runs.{clear}
 use Rattle.sure_ticks.specs.Slots.{slot, found}
 use Rattle.sure_ticks.proofs.Found.{slots_none, slots_always, slots_found}
 use Rattle.slots.specs.OfPlan.{longest}
+use Rattle.slots.specs.Listed.{items}
 use Rattle.slots.proofs.LineRuns.{found_few}
 use Rattle.slots.proofs.find.find.Goals as goal
 
@@ -16,7 +17,7 @@ pub returns-then-hold-eq0 : goal.returns-then-hold-eq0
 returns-then-hold-eq0 c =
     let g : GateList = c.args.plan.now.gates in
     let M = longest (contents c.args.plan.now) in
-    c.new-slots.ensures ∙ sym (slots_none g.cycle.0 (opened (vec_items g.lines)) M c.args.class (sym c.hold.ensures.value ∙ c.if-hold-eq0.true))
+    c.empty-slots.ensures ∙ sym (slots_none g.cycle.0 (opened (vec_items g.lines)) M c.args.class (sym c.hold.ensures.value ∙ c.if-hold-eq0.true))
 
 pub invariant_of-first : goal.invariant_of-first
 unfolding total
@@ -28,21 +29,21 @@ returns-then-clear_for-cycle c =
     let M : ℕ → ℕ = longest (contents c.args.plan.now) in
     let some : 0 < M c.args.class = omega (arith, c.hold.ensures.value, c.if-hold-eq0.false) in
     let all = holds_lasts (clear (opened (vec_items g.lines)) c.args.class) g.cycle.0 (sym c.clear_for.ensures ∙ c.if-clear_for-cycle.true ∙ c.cycle.ensures) in
-    c.push.ensures.items ∙ ap (λ v. v ++ (slot 0 c.cycle-then-clear_for-cycle.result ∷ [])) c.new-slots.ensures ∙ ap (λ v. slot 0 v ∷ []) c.cycle-then-clear_for-cycle.ensures
+    c.push.ensures ∙ ap (λ v. v ++ (slot 0 c.cycle-then-clear_for-cycle.result ∷ [])) c.empty-slots.ensures ∙ ap (λ v. slot 0 v ∷ []) c.cycle-then-clear_for-cycle.ensures
     ∙ sym (slots_always g.cycle.0 (opened (vec_items g.lines)) M c.args.class some all)
 
 pub gather-requires : goal.gather-requires
 gather-requires c =
     let few = found_few _ _ c.args.plan.now.gates.lawful (longest (contents c.args.plan.now)) c.args.class in
-    omega (arith, few, ap length c.new-slots.ensures)
+    omega (arith, few, ap length c.empty-slots.ensures)
 
 pub gather-requires-2 : goal.gather-requires-2
 gather-requires-2 c =
     let g : GateList = c.args.plan.now.gates in
     let M : ℕ → ℕ = longest (contents c.args.plan.now) in
     let few = found_few _ _ g.lawful M c.args.class in
-    let n = ap length c.gather.ensures ∙ length-append (c.new-slots.result.items) (found true g.cycle.0 (opened (vec_items g.lines)) M c.args.class g.cycle.0) in
-    omega (arith, few, n, ap length c.new-slots.ensures)
+    let n = ap length c.gather.ensures ∙ length-append (items c.empty-slots.result) (found true g.cycle.0 (opened (vec_items g.lines)) M c.args.class g.cycle.0) in
+    omega (arith, few, n, ap length c.empty-slots.ensures)
 
 pub returns : goal.returns
 returns c =
@@ -52,5 +53,5 @@ returns c =
     let most = lasts_most (clear (opened (vec_items g.lines)) c.args.class) g.cycle.0 0 in
     let short : lasts (clear (opened (vec_items g.lines)) c.args.class) 0 g.cycle.0 < g.cycle.0 = omega (arith, c.clear_for.ensures, c.cycle.ensures, c.if-clear_for-cycle.false) in
     c.gather-2.ensures ∙ ap (λ v. v ++ found false g.cycle.0 (opened (vec_items g.lines)) M c.args.class g.cycle.0) c.gather.ensures
-    ∙ ap (λ v. (v ++ found true g.cycle.0 (opened (vec_items g.lines)) M c.args.class g.cycle.0) ++ found false g.cycle.0 (opened (vec_items g.lines)) M c.args.class g.cycle.0) c.new-slots.ensures
+    ∙ ap (λ v. (v ++ found true g.cycle.0 (opened (vec_items g.lines)) M c.args.class g.cycle.0) ++ found false g.cycle.0 (opened (vec_items g.lines)) M c.args.class g.cycle.0) c.empty-slots.ensures
     ∙ sym (slots_found g.cycle.0 (opened (vec_items g.lines)) M c.args.class some (holds_short (clear (opened (vec_items g.lines)) c.args.class) g.cycle.0 short))

@@ -18,8 +18,8 @@ pub loop-slot-init : goal.loop-slot-init
 loop-slot-init c =
     let L = c.args.self.now.cycle.0 in
     let ss = c.as_slice-slots.result.now in
-    let ms = c.as_slice-marks.result.now in
-    let r = ready_of c.args.self.now ss ms c.as_slice-slots.ensures c.as_slice-marks.ensures.value in
+    let ms = c.marks-marks.result.now in
+    let r = ready_of c.args.self.now ss ms c.as_slice-slots.ensures c.marks-marks.ensures in
     let n = marks_size L ss ms r in
     let m : c.args.ticks ≤ lengths ss = subst (λ xs. c.args.ticks ≤ lengths xs) (sym c.as_slice-slots.ensures) c.requires.there in
     let some = lengths_some ss (omega (arith, c.requires.some)) in
@@ -27,15 +27,15 @@ loop-slot-init c =
 
 pub overflow_add-done : goal.overflow_add-done
 overflow_add-done c =
-    let t = turn_of c.args.self.now _ _ c.as_slice-slots.ensures c.as_slice-marks.ensures.value c.loop-slot.slot-index c.loop-slot-test.true in
+    let t = turn_of c.args.self.now _ _ c.as_slice-slots.ensures c.marks-marks.ensures c.loop-slot.slot-index c.loop-slot-test.true in
     omega (arith, c.loop-slot.invariant.1)
 
 pub overflow_add-number : goal.overflow_add-number
 overflow_add-number c =
     let L = c.args.self.now.cycle.0 in
     let ss = c.as_slice-slots.result.now in
-    let ms = c.as_slice-marks.result.now in
-    let r = ready_of c.args.self.now ss ms c.as_slice-slots.ensures c.as_slice-marks.ensures.value in
+    let ms = c.marks-marks.result.now in
+    let r = ready_of c.args.self.now ss ms c.as_slice-slots.ensures c.marks-marks.ensures in
     let t = turn L ss ms r c.loop-slot.slot-index c.loop-slot-test.true in
     let m : c.args.ticks ≤ lengths ss = subst (λ xs. c.args.ticks ≤ lengths xs) (sym c.as_slice-slots.ensures) c.requires.there in
     omega (arith, c.loop-slot.invariant.1)
@@ -44,8 +44,8 @@ pub reach-k-requires-clause-inside : goal.reach-k-requires-clause-inside
 reach-k-requires-clause-inside c =
     let L = c.args.self.now.cycle.0 in
     let ss = c.as_slice-slots.result.now in
-    let ms = c.as_slice-marks.result.now in
-    let r = ready_of c.args.self.now ss ms c.as_slice-slots.ensures c.as_slice-marks.ensures.value in
+    let ms = c.marks-marks.result.now in
+    let r = ready_of c.args.self.now ss ms c.as_slice-slots.ensures c.marks-marks.ensures in
     let t = turn L ss ms r c.loop-slot.slot-index c.loop-slot-test.true in
     let l = last_before L ss ms r in
     let m : c.args.ticks ≤ lengths ss = subst (λ xs. c.args.ticks ≤ lengths xs) (sym c.as_slice-slots.ensures) c.requires.there in
@@ -55,8 +55,8 @@ pub place_after-end-requires-clause-small : goal.place_after-end-requires-clause
 place_after-end-requires-clause-small c =
     let L = c.args.self.now.cycle.0 in
     let ss = c.as_slice-slots.result.now in
-    let ms = c.as_slice-marks.result.now in
-    let r = ready_of c.args.self.now ss ms c.as_slice-slots.ensures c.as_slice-marks.ensures.value in
+    let ms = c.marks-marks.result.now in
+    let r = ready_of c.args.self.now ss ms c.as_slice-slots.ensures c.marks-marks.ensures in
     let t = turn L ss ms r c.loop-slot.slot-index c.loop-slot-test.true in
     let m : c.args.ticks ≤ lengths ss = subst (λ xs. c.args.ticks ≤ lengths xs) (sym c.as_slice-slots.ensures) c.requires.there in
     let p = place_le L ss ms r c.reach-k.result (omega (arith, c.reach-k.ensures.there)) in
@@ -64,20 +64,20 @@ place_after-end-requires-clause-small c =
 
 pub overflow_sub-slot : goal.overflow_sub-slot
 overflow_sub-slot c =
-    let t = turn_of c.args.self.now _ _ c.as_slice-slots.ensures c.as_slice-marks.ensures.value c.loop-slot.slot-index c.loop-slot-test.true in
+    let t = turn_of c.args.self.now _ _ c.as_slice-slots.ensures c.marks-marks.ensures c.loop-slot.slot-index c.loop-slot-test.true in
     omega (arith, c.first_begin-first.ensures)
 
 pub overflow_add-slot : goal.overflow_add-slot
 overflow_add-slot c =
-    let t = turn_of c.args.self.now _ _ c.as_slice-slots.ensures c.as_slice-marks.ensures.value c.loop-slot.slot-index c.loop-slot-test.true in
+    let t = turn_of c.args.self.now _ _ c.as_slice-slots.ensures c.marks-marks.ensures c.loop-slot.slot-index c.loop-slot-test.true in
     omega (arith, c.first_begin-first.ensures)
 
 pub overflow_sub-end : goal.overflow_sub-end
 overflow_sub-end c =
     let L = c.args.self.now.cycle.0 in
     let ss = c.as_slice-slots.result.now in
-    let ms = c.as_slice-marks.result.now in
-    let r = ready_of c.args.self.now ss ms c.as_slice-slots.ensures c.as_slice-marks.ensures.value in
+    let ms = c.marks-marks.result.now in
+    let r = ready_of c.args.self.now ss ms c.as_slice-slots.ensures c.marks-marks.ensures in
     let j = c.loop-slot.slot-index in
     let h = c.loop-slot-test.true in
     let t = turn L ss ms r j h in
@@ -89,8 +89,8 @@ pub loop-slot-preserved : goal.loop-slot-preserved
 loop-slot-preserved c =
     let L = c.args.self.now.cycle.0 in
     let ss = c.as_slice-slots.result.now in
-    let ms = c.as_slice-marks.result.now in
-    let r = ready_of c.args.self.now ss ms c.as_slice-slots.ensures c.as_slice-marks.ensures.value in
+    let ms = c.marks-marks.result.now in
+    let r = ready_of c.args.self.now ss ms c.as_slice-slots.ensures c.marks-marks.ensures in
     let j = c.loop-slot.slot-index in
     let h = c.loop-slot-test.true in
     let t = turn L ss ms r j h in
@@ -113,8 +113,8 @@ pub returns : goal.returns
 returns c =
     let L = c.args.self.now.cycle.0 in
     let ss = c.as_slice-slots.result.now in
-    let ms = c.as_slice-marks.result.now in
-    let r = ready_of c.args.self.now ss ms c.as_slice-slots.ensures c.as_slice-marks.ensures.value in
+    let ms = c.marks-marks.result.now in
+    let r = ready_of c.args.self.now ss ms c.as_slice-slots.ensures c.marks-marks.ensures in
     let P : List Slot → Type 0 = λ xs. AllByRecursion (λ s. c.args.ticks ≤ count (covered L ss) (end_of s) c.loop-slot.far) xs in
     let m : c.args.ticks ≤ lengths ss = subst (λ xs. c.args.ticks ≤ lengths xs) (sym c.as_slice-slots.ensures) c.requires.there in
     let a = least_above L r.some ss r.apart (lengths_some ss (omega (arith, c.requires.some))) c.loop-slot.far c.args.ticks (subst P (take_all _ _ c.loop-slot-test.false) c.loop-slot.invariant.3) in

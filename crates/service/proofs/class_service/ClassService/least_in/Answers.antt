@@ -22,38 +22,38 @@ pub loop-slot-init : goal.loop-slot-init
 loop-slot-init c =
     let L = c.args.self.now.cycle.0 in
     let ss = c.as_slice-slots.result.now in
-    let ms = c.as_slice-marks.result.now in
-    let r = ready_of c.args.self.now ss ms c.as_slice-slots.ensures c.as_slice-marks.ensures.value in
+    let ms = c.marks-marks.result.now in
+    let r = ready_of c.args.self.now ss ms c.as_slice-slots.ensures c.marks-marks.ensures in
     let n = marks_size L ss ms r in
     let some = eqb-false (length ss) 0 (sym c.is_empty.ensures ∙ c.if-is_empty.false) in
     (least_most L r.some ss c.args.window, tt, omega arith, sym (first_before L ss ms r), omega arith)
 
 pub overflow_add-done : goal.overflow_add-done
 overflow_add-done c =
-    let t = turn_of c.args.self.now _ _ c.as_slice-slots.ensures c.as_slice-marks.ensures.value c.loop-slot.slot-index c.loop-slot-test.true in
+    let t = turn_of c.args.self.now _ _ c.as_slice-slots.ensures c.marks-marks.ensures c.loop-slot.slot-index c.loop-slot-test.true in
     omega (arith, c.loop-slot.invariant.3)
 
 pub overflow_sub-end : goal.overflow_sub-end
 overflow_sub-end c =
-    let t = turn_of c.args.self.now _ _ c.as_slice-slots.ensures c.as_slice-marks.ensures.value c.loop-slot.slot-index c.loop-slot-test.true in
+    let t = turn_of c.args.self.now _ _ c.as_slice-slots.ensures c.marks-marks.ensures c.loop-slot.slot-index c.loop-slot-test.true in
     omega (arith, c.first_begin-first.ensures)
 
 pub overflow_add-end : goal.overflow_add-end
 overflow_add-end c =
-    let t = turn_of c.args.self.now _ _ c.as_slice-slots.ensures c.as_slice-marks.ensures.value c.loop-slot.slot-index c.loop-slot-test.true in
+    let t = turn_of c.args.self.now _ _ c.as_slice-slots.ensures c.marks-marks.ensures c.loop-slot.slot-index c.loop-slot-test.true in
     omega (arith, c.first_begin-first.ensures)
 
 pub overflow_add-end-in-loop-slot : goal.overflow_add-end-in-loop-slot
 overflow_add-end-in-loop-slot c =
-    let t = turn_of c.args.self.now _ _ c.as_slice-slots.ensures c.as_slice-marks.ensures.value c.loop-slot.slot-index c.loop-slot-test.true in
+    let t = turn_of c.args.self.now _ _ c.as_slice-slots.ensures c.marks-marks.ensures c.loop-slot.slot-index c.loop-slot-test.true in
     omega (arith, c.first_begin-first.ensures, c.requires)
 
 pub reach-k-requires-clause-inside : goal.reach-k-requires-clause-inside
 reach-k-requires-clause-inside c =
     let L = c.args.self.now.cycle.0 in
     let ss = c.as_slice-slots.result.now in
-    let ms = c.as_slice-marks.result.now in
-    let r = ready_of c.args.self.now ss ms c.as_slice-slots.ensures c.as_slice-marks.ensures.value in
+    let ms = c.marks-marks.result.now in
+    let r = ready_of c.args.self.now ss ms c.as_slice-slots.ensures c.marks-marks.ensures in
     let t = turn L ss ms r c.loop-slot.slot-index c.loop-slot-test.true in
     let l = last_place L ss ms r in
     λ p. let m = passes _ _ (λ m. m.place.0) ((get_or ss c.loop-slot.slot-index (slot 0 0)).begin.0 - c.first_begin-first.result + (get_or ss c.loop-slot.slot-index (slot 0 0)).length.0 + c.args.window) (λ m q e. search (rules, tests)) ms _ p in omega (arith, m, c.first_begin-first.ensures, c.requires)
@@ -62,8 +62,8 @@ pub before_place-requires : goal.before_place-requires
 before_place-requires c =
     let L = c.args.self.now.cycle.0 in
     let ss = c.as_slice-slots.result.now in
-    let ms = c.as_slice-marks.result.now in
-    let r = ready_of c.args.self.now ss ms c.as_slice-slots.ensures c.as_slice-marks.ensures.value in
+    let ms = c.marks-marks.result.now in
+    let r = ready_of c.args.self.now ss ms c.as_slice-slots.ensures c.marks-marks.ensures in
     let j = c.loop-slot.slot-index in
     let h = c.loop-slot-test.true in
     let t = turn L ss ms r j h in
@@ -75,8 +75,8 @@ pub overflow_sub-before_place : goal.overflow_sub-before_place
 overflow_sub-before_place c =
     let L = c.args.self.now.cycle.0 in
     let ss = c.as_slice-slots.result.now in
-    let ms = c.as_slice-marks.result.now in
-    let r = ready_of c.args.self.now ss ms c.as_slice-slots.ensures c.as_slice-marks.ensures.value in
+    let ms = c.marks-marks.result.now in
+    let r = ready_of c.args.self.now ss ms c.as_slice-slots.ensures c.marks-marks.ensures in
     let j = c.loop-slot.slot-index in
     let h = c.loop-slot-test.true in
     let t = turn L ss ms r j h in
@@ -88,8 +88,8 @@ pub loop-slot-preserved : goal.loop-slot-preserved
 loop-slot-preserved c =
     let L = c.args.self.now.cycle.0 in
     let ss = c.as_slice-slots.result.now in
-    let ms = c.as_slice-marks.result.now in
-    let r = ready_of c.args.self.now ss ms c.as_slice-slots.ensures c.as_slice-marks.ensures.value in
+    let ms = c.marks-marks.result.now in
+    let r = ready_of c.args.self.now ss ms c.as_slice-slots.ensures c.marks-marks.ensures in
     let j = c.loop-slot.slot-index in
     let h = c.loop-slot-test.true in
     let t = turn L ss ms r j h in
@@ -107,8 +107,8 @@ pub returns : goal.returns
 returns c =
     let L = c.args.self.now.cycle.0 in
     let ss = c.as_slice-slots.result.now in
-    let ms = c.as_slice-marks.result.now in
-    let r = ready_of c.args.self.now ss ms c.as_slice-slots.ensures c.as_slice-marks.ensures.value in
+    let ms = c.marks-marks.result.now in
+    let r = ready_of c.args.self.now ss ms c.as_slice-slots.ensures c.marks-marks.ensures in
     let best = c.loop-slot.best in
     let P : List Slot → Type 0 = λ xs. AllByRecursion (λ s. best ≤ count (covered L ss) (end_of s) c.args.window) xs in
     let a = least_above L r.some ss r.apart (eqb-false (length ss) 0 (sym c.is_empty.ensures ∙ c.if-is_empty.false)) c.args.window best (subst P (take_all _ _ c.loop-slot-test.false) c.loop-slot.invariant.1) in

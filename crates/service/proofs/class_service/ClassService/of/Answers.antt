@@ -1,4 +1,4 @@
-use Rattle.std.proofs.Common.{◌≡◌, ℕ, ◌-◌, vec_items, sym, ap, ◌∙◌, subst, arith}
+use Rattle.std.proofs.Common.{◌≡◌, ℕ, ◌+◌, ◌-◌, ◌*◌, length, take, vec_items, sym, ap, ◌∙◌, subst, arith}
 use Rattle.gates.specs.declared.gate_list.GateList.{GateList}
 use Rattle.gates.specs.Opened.{opened}
 use Rattle.plan.specs.PlanContents.{contents}
@@ -35,11 +35,12 @@ invariant_of-result c =
     let some = cycle_some _ _ p.gates.lawful in
     let b = plan_block p c.args.class in
     record {
+      room = c.table-marks.ensures.room;
       ready = record {
         apart = subst (λ v. Apart v ss) (sym n) (plan_apart p c.args.class ss e);
         some = omega arith;
         short = omega (arith, n, p.gates.lawful.most);
-        table = c.table-marks.ensures ∙ ap (table_of c.cycle-cycle.result.0) c.as_slice.ensures;
+        table = subst (λ xs. take (2 * length xs + 1) c.table-marks.result ≡ table_of c.cycle-cycle.result.0 xs) c.as_slice.ensures c.table-marks.ensures.table;
       };
       whole = c.in_ok-slots.ensures.1.1 ∙ sym (plan_sure p c.args.class ss e);
       low = omega (arith, c.in_ok-slots.ensures.1.2);
