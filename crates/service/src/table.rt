@@ -57,6 +57,8 @@ fn set_marks(marks: &mut [Mark], at: usize, slots: &[Slot], start: Mark)
 {
     let first = first_begin(slots);
     let mut sum = start.before.0;
+    // Of marks that an iterator lends beside the slots, to be written, a proof knows only how many there are: so each place is reached
+    // by its index.
     for (i, slot) in slots.iter().enumerate() {
         marks[at + i] = Mark {
             place: Ticks(start.place.0 + (slot.begin.0 - first)),
