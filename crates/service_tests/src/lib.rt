@@ -27,7 +27,8 @@ mod tests {
         Ok(())
     }
 
-    // So many bytes are first there at these spans.
+    // So many bytes are first there at these spans. Like `check_curve`: one function would take what is asked as a closure, and be no
+    // plainer.
     fn check_spans(
         rt: &impl Abort,
         plan: &Plan,

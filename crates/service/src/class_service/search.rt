@@ -44,7 +44,8 @@ impl ClassService {
         best
     }
 
-    // The least window that has a number of sure ticks wherever it begins, for at most the sure ticks of a cycle.
+    // The least window that has a number of sure ticks wherever it begins, for at most the sure ticks of a cycle. `least_in` goes the same
+    // way: one function for both would take the test, the number and which of two is kept as closures, and be no plainer.
     pub(crate) fn first_with(&self, ticks: u64) -> u64
         requires some { 0 < ticks }
         requires there { ticks ≤ lengths (items self.now.slots) }
