@@ -9,12 +9,11 @@ ghost use Rattle.slots.specs.OfPlan.{slots_of, sure_ticks_of, block_of};
 ghost use Rattle.slots.specs.Listed.{items};
 
 use crate::blocking::FramesInSlots;
-use crate::find::find;
 use crate::lower::greatest_below;
 use crate::slot_list::SlotList;
 use plan::Plan;
 use sure_ticks::Slot;
-use units::{Class, Refusal, Ticks};
+use units::{Refusal, Ticks};
 
 // The slots of a class, how many ticks of a cycle are sure for it, and its block: how much of a lower frame can be on the wire when
 // a busy period of the class begins.
@@ -32,8 +31,7 @@ impl ClassSlots {
             × (f.sure.0 ≡ sure_ticks_of (contents plan.now) class)
             × (f.block.0 ≡ block_of (contents plan.now) class)) }
     {
-        let class = u8::from(Class::try_from(class)?);
-        let slots = find(plan, class);
+        let slots = SlotList::of(plan, class)?;
         let sure = Ticks(total_length(slots.as_slice()));
         let frames = FramesInSlots {
             plan,
