@@ -39,11 +39,12 @@ fn next_rise<E: Envelope>(envelope: &E, from: Ticks, to: Ticks, bytes: Bytes) ->
 {
     let mut low = from.0;
     let mut high = to.0;
-    // How far beyond `low` the next look goes, where half of the spans that are left is not nearer.
+    // How far beyond `low` the next look goes, as long as that is among the spans that are left; then it goes half as far as they do.
     let mut step = 1;
     // No `for`: each look says which spans are left, and no slice holds them that `partition_point` could search.
     while 1 < high - low {
-        let mid = low + step.min((high - low) / 2);
+        let left = high - low;
+        let mid = low + if step < left { step } else { left / 2 };
         if exceeds(envelope, Ticks(mid), bytes) {
             high = mid;
         } else {

@@ -39,12 +39,15 @@ fn answer(rt: &HostRuntime, plan: &Plan, line: &str) -> anyhow::Result<()> {
     let mut words = line.split(' ');
     let kind = words.next().context("a line has a kind")?;
     let count = words.next().context("a line has a count")?.parse::<u64>()?;
-    let service = ClassService::of(plan, CLASS)
-        .ok()
-        .context("there is no such class")?;
     let sums = match kind {
-        "curve" => sum_of(count, |query| Ok(service.at(span_of(query))?.0)),
-        "inverse" => sum_of(count, |query| Ok(least_span(&service, query))),
+        "curve" => {
+            let service = service_of(plan)?;
+            sum_of(count, |query| Ok(service.at(span_of(query))?.0))
+        }
+        "inverse" => {
+            let service = service_of(plan)?;
+            sum_of(count, |query| Ok(least_span(&service, query)))
+        }
         "make" => sum_of(count, |query| {
             Ok(ClassService::of(plan, CLASS)?.at(span_of(query))?.0)
         }),
@@ -53,6 +56,13 @@ fn answer(rt: &HostRuntime, plan: &Plan, line: &str) -> anyhow::Result<()> {
     let sum = sums.ok().context("a query is refused")?;
     println!(rt; "{kind} {count} {sum}")?;
     Ok(())
+}
+
+// The service of the class that is asked about, made only where it is asked.
+fn service_of(plan: &Plan) -> anyhow::Result<ClassService> {
+    ClassService::of(plan, CLASS)
+        .ok()
+        .context("there is no such class")
 }
 
 // A plan with as many gate lines, as long a cycle and as many slots of a class as there can be.

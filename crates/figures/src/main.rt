@@ -5,7 +5,7 @@
 mod class_figures;
 
 use anyhow::{Context, anyhow};
-use class_figures::ClassFigures;
+use class_figures::{BoundFigures, SlotFigures};
 use plan::Plan;
 use plan_input::{read_input, read_plan};
 
@@ -30,8 +30,10 @@ fn print_plan(rt: &HostRuntime, plan: &Plan) -> anyhow::Result<()> {
     let port = plan.port();
     println!(rt; "port={port}")?;
     for class in (0..8u8).rev() {
-        let figures = ClassFigures::of(plan, class).ok().context("no such class")?;
-        println!(rt; "{figures}")?;
+        let slots = SlotFigures::of(plan, class).ok().context("no such class")?;
+        print!(rt; "{slots}")?;
+        let bound = BoundFigures::of(plan, class);
+        println!(rt; "{bound}")?;
     }
     Ok(())
 }

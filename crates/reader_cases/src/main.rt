@@ -15,7 +15,8 @@ fn main(rt: HostRuntime) -> anyhow::Result<()> {
 fn run(rt: &HostRuntime) -> anyhow::Result<()> {
     let mut plan = Plan::new(rt.alloc())?;
     let mut base = Vec::new(rt.alloc());
-    let mut lines = rt.lines(rt.alloc());
+    // Fused: where the input ends before the cases begin, it is not asked for a line again.
+    let mut lines = rt.lines(rt.alloc()).fuse();
     for line in lines.by_ref() {
         let line = line?;
         if line.is_empty() {

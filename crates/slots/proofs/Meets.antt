@@ -185,3 +185,10 @@ module _ (L : ℕ) (ls : List GateLine) (law : Lawful ls L) (ss : List Slot) (k 
             ]
           ];
         }
+
+-- no tick is in one of no slots
+pub never_covered : (L : ℕ) (o : ℕ → Bool) (ss : List Slot) → length ss ≡ 0 → (n : ℕ) → any (λ t. covered L ss t && o t) n ≡ false
+unfolding any covered
+never_covered L o [] e zero = refl
+never_covered L o [] e (suc n) = never_covered L o [] e n
+never_covered L o (_ ∷ _) e n = absurd (omega arith)

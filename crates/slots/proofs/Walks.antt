@@ -1,18 +1,11 @@
 -- A walk over gate lines, told in ticks. Assumes nothing.
-use Rattle.std.proofs.Common.{◌≡◌, ℕ, zero, suc, ◌+◌, ◌-◌, ◌*◌, ◌%◌, ◌<◌, ◌≤◌, Bool, true, false, not, ◌&&◌, ltb, ◌⊎◌, List, [], ◌∷◌, ◌++◌, length, get_or, take, drop, vec_items, Option, Some, None, Iter, sym, ap, ◌∙◌, subst, inl, inr, mod-eq_of_lt, arith}
+use Rattle.std.proofs.Common.{◌≡◌, ℕ, zero, suc, ◌+◌, ◌-◌, ◌*◌, ◌%◌, ◌<◌, ◌≤◌, Bool, true, false, not, ◌&&◌, ltb, ◌⊎◌, List, [], ◌∷◌, ◌++◌, length, get_or, take, drop, vec_items, sym, refl, ap, ◌∙◌, subst, inl, inr, mod-eq_of_lt, arith}
 use Rattle.std.proofs.lemmas.Bool.{lt-ltb, ltb-true, and_left, and_right, and_from, cases_Bool, cases_lt, not_from_true, not_from_false}
 use Rattle.std.specs.Bool.{MatchBool}
 use Rattle.std.specs.List.{range_with_len, HoldsAt, AllWithin}
 use Rattle.std.proofs.lemmas.List.FromFn.{get_or-range_with_len}
-use Rattle.std.proofs.lemmas.List.{take-append-drop, get_or_default}
-use Rattle.std.proofs.lemmas.Iterator.{YieldsList, YieldsList-from_slice}
-use Rattle.std.proofs.lemmas.Iterator.Consumers.{YieldsList-from_chain, YieldsList-turn, YieldsList-end}
-use Rattle.std.proofs.iter.Yields.{fronts}
-use Rattle.std.specs.declared.iter.Chain.{Chain}
-use Rattle.std.specs.Iterator.{Yields}
-use Rattle.std.specs.Iterator.Adapters.{chain_first, chain_second, chain_first_done, chain_second_done, chain_steps}
-use Rattle.std.specs.Slice.Iter.{iter_rest}
-use denote.Ref.{Bor}
+use Rattle.std.proofs.lemmas.List.{length-append, take-append-drop, take-append-le, get_or_append_left, get_or-append-add, get_or-append_right}
+use Rattle.std.proofs.Math.Seq.{take-append-add}
 use Rattle.units.specs.Limits.{classes}
 use Rattle.calculus.specs.Searches.{all, lasts}
 use Rattle.calculus.proofs.Bounded.{all_from, all_not}
@@ -23,7 +16,7 @@ use Rattle.gates.specs.Opened.{total, shows, opened, start, line, Lawful}
 use Rattle.gates.proofs.Lines.{start_next, start_all, start_most, total_some, repeats, steady}
 use Rattle.sure_ticks.specs.Runs.{clear}
 use Rattle.sure_ticks.proofs.Found.{clear_same}
-use Rattle.slots.specs.Walks.{alone, AtTick}
+use Rattle.slots.specs.Walks.{alone, AtTick, Answers, Walked}
 
 -- one line: a higher class is open
 pub clear_higher : (o : ℕ → ℕ → Bool) (c t h : ℕ) → c < h → h < classes → o h t ≡ true → clear o c t ≡ false
@@ -174,36 +167,47 @@ module _ (f : ℕ → Bool) (b : GateLine → Bool) where
       (ap f e ∙ r.0, omega (arith, r.1))
 
 -- the lines from the line n to the last, and then from the first on
-abbrev pub round : List GateLine → ℕ → List GateLine
+abbrev round : List GateLine → ℕ → List GateLine
 round ls n = drop n ls ++ take n ls
 
--- an iterator that gives them
-module _ (ls : List GateLine) (n : ℕ) (s : Chain (Iter GateLine) (Iter GateLine)) (a : iter_rest (chain_first s) ≡ drop n ls) (b : iter_rest (chain_second s) ≡ take n ls) (c : chain_first_done s ≡ false)
-    (d : chain_second_done s ≡ false) where
-  -- it gives them all
-  round_road : YieldsList (chain_steps fronts fronts) (λ (l : Bor GateLine). l.now) s (round ls n)
-  round_road = YieldsList-from_chain (YieldsList-from_slice (drop n ls) a) (YieldsList-from_slice (take n ls) b) c d
+-- a walk over lines and then lines
+module _ (answer : GateLine → Bool → Type 0) (xs ys : List GateLine) where
+  -- it ends in the first of them
+  walked_first : (t : ℕ) (w : Walked answer xs t) → w.past < length xs → Walked answer (xs ++ ys) t
+  walked_first t w lt = record {
+    past = w.past;
+    inside = omega (arith, length-append xs ys, lt);
+    added = w.added ∙ ap total (sym (take-append-le w.past xs ys w.inside));
+    pass = λ j l. subst (λ k. answer k true) (sym (get_or_append_left xs ys _ j (omega arith))) (w.pass j l);
+    ends = λ _. subst (λ k. answer k false) (sym (get_or_append_left xs ys _ w.past lt)) (w.ends lt);
+  }
 
-  -- the next of them, after some
-  pub round_turn : (xs : List (Bor GateLine)) (t u : Chain (Iter GateLine) (Iter GateLine)) → Yields (chain_steps fronts fronts) s xs t
-      → (r : Option (Bor GateLine)) (l : Bor GateLine) → r ≡ Some l → chain_steps fronts fronts t r u → (length xs < length (round ls n)) × (l.now ≡ line (round ls n) (length xs))
-  round_turn xs t u y r l e f =
-      let w = YieldsList-turn round_road xs t y r u l e f in
-      (w.0, w.1 ∙ get_or_default (round ls n) (length xs) _ _ w.0)
-
-  -- none is left
-  pub round_end : (xs : List (Bor GateLine)) (t u : Chain (Iter GateLine) (Iter GateLine)) → Yields (chain_steps fronts fronts) s xs t
-      → (r : Option (Bor GateLine)) → r ≡ None → chain_steps fronts fronts t r u → length (round ls n) ≤ length xs
-  round_end xs t u y r e f = let w = YieldsList-end round_road xs t y r u e f in omega (arith, w.1)
+  -- it goes on in the second
+  walked_both : (t u : ℕ) (v : Walked answer xs t) (w : Walked answer ys u) → length xs ≤ v.past → Walked answer (xs ++ ys) (t + u)
+  walked_both t u v w all =
+      let e = start_all xs v.past all in
+      let f = ap total (take-append-add xs ys w.past) in
+      let g = total_append xs (take w.past ys) in
+      record {
+        past = length xs + w.past;
+        inside = omega (arith, length-append xs ys, w.inside);
+        added = omega (arith, v.added, w.added);
+        pass = λ j l.
+            elim (cases_lt j (length xs)) [
+              | inl lt ↦ subst (λ k. answer k true) (sym (get_or_append_left xs ys _ j lt)) (v.pass j (omega arith))
+              | inr le ↦ subst (λ k. answer k true) (sym (get_or-append_right xs ys (length xs) j _ refl le)) (w.pass (j - length xs) (omega arith))
+            ];
+        ends = λ l. subst (λ k. answer k false) (sym (get_or-append-add xs ys w.past _)) (w.ends (omega (arith, length-append xs ys)));
+      }
 
 module _ (ls : List GateLine) (cycle : ℕ) (law : Lawful ls cycle) (n : ℕ) where
   -- together they last the cycle
   pub round_total : total (round ls n) ≡ cycle
   round_total = let e = ap total (take-append-drop n ls) in let p = total_append (take n ls) (drop n ls) in let q = total_append (drop n ls) (take n ls) in omega (arith, law.together)
 
-  -- a walk has come past the first i of them in so many ticks
-  pub round_fits : (i : ℕ) → i < length (round ls n) → start (round ls n) (suc i) ≤ cycle
-  round_fits i lt = let m = start_most (round ls n) (suc i) in omega (arith, round_total)
+  -- those from the line n on last from its beginning to the cycle's end
+  pub round_parts : start ls n + total (drop n ls) ≡ cycle
+  round_parts = let e = ap total (take-append-drop n ls) in let p = total_append (take n ls) (drop n ls) in omega (arith, law.together)
 
   module _ (test : (ℕ → ℕ → Bool) → ℕ → Bool) (at : AtTick test) where
     -- they follow one another from the beginning of the line n on
@@ -223,7 +227,7 @@ module _ (ls : List GateLine) (cycle : ℕ) (law : Lawful ls cycle) (n : ℕ) wh
         along_append f b (drop n ls) (take n ls) (start ls n) d t
 
     -- one of them fails and all before it pass: the test lasts up to it
-    pub round_stop : (i : ℕ) → i < length (round ls n) → ((j : ℕ) → j < i → test (alone (line (round ls n) j)) 0 ≡ true) → test (alone (line (round ls n) i)) 0 ≡ false
+    round_stop : (i : ℕ) → i < length (round ls n) → ((j : ℕ) → j < i → test (alone (line (round ls n) j)) 0 ≡ true) → test (alone (line (round ls n) i)) 0 ≡ false
         → start (round ls n) i ≡ lasts (test (opened ls)) (start ls n) cycle
     round_stop i lt h fails =
         let r = along_at (test (opened ls)) (λ l. test (alone l) 0) (round ls n) (start ls n) i lt round_along in
@@ -232,12 +236,61 @@ module _ (ls : List GateLine) (cycle : ℕ) (law : Lawful ls cycle) (n : ℕ) wh
         (r.0 ∙ fails))
 
     -- all of them pass: it lasts the cycle
-    pub round_all : (i : ℕ) → length (round ls n) ≤ i → ((j : ℕ) → j < i → test (alone (line (round ls n) j)) 0 ≡ true)
+    round_all : (i : ℕ) → length (round ls n) ≤ i → ((j : ℕ) → j < i → test (alone (line (round ls n) j)) 0 ≡ true)
         → start (round ls n) i ≡ lasts (test (opened ls)) (start ls n) cycle
     round_all i le h =
         let e : start (round ls n) i ≡ cycle = start_all (round ls n) i le ∙ round_total in
         e ∙ sym (lasts_full (test (opened ls)) cycle (start ls n)
         (λ t lo hi. along_upto (test (opened ls)) (λ l. test (alone l) 0) (round ls n) (start ls n) i round_along (λ j l _. h j l) t lo (omega arith)))
+
+    -- what a walk is told of each line is what the test says of its gates
+    abbrev Told : GateLine → Bool → Type 0
+    Told l b = b ≡ test (alone l) 0
+
+    told : (answer : GateLine → Bool → Type 0) → Answers answer test → (xs ys : List GateLine) → xs ≡ ys → (t : ℕ) → Walked answer xs t → Walked Told ys t
+    told answer says xs ys e t w =
+        subst (λ zs. Walked Told zs t) e
+        (record {
+          past = w.past;
+          inside = w.inside;
+          added = w.added;
+          pass = λ j l. says _ true (w.pass j l);
+          ends = λ l. says _ false (w.ends l);
+        })
+
+    -- so the test lasts as long as a walk over them
+    round_walked : (t : ℕ) → Walked Told (round ls n) t → t ≡ lasts (test (opened ls)) (start ls n) cycle
+    round_walked t w =
+        elim (cases_lt w.past (length (round ls n))) [
+          | inl lt ↦ w.added ∙ round_stop w.past lt (λ j l. sym (w.pass j l)) (sym (w.ends lt))
+          | inr le ↦ w.added ∙ round_all w.past le (λ j l. sym (w.pass j l))
+        ]
+
+    -- as long as one over those from the line n on, if that ends before the cycle does
+    pub round_short : (answer : GateLine → Bool → Type 0) → Answers answer test → (xs : List GateLine) → xs ≡ drop n ls → (t : ℕ) → Walked answer xs t
+        → t < cycle - start ls n → t ≡ lasts (test (opened ls)) (start ls n) cycle
+    round_short answer says xs e t w lt =
+        let v = told answer says xs (drop n ls) e t w in
+        elim (cases_lt v.past (length (drop n ls))) [
+          | inl here ↦ round_walked t (walked_first Told (drop n ls) (take n ls) t v here)
+          | inr past ↦ let a = start_all (drop n ls) v.past past in absurd (omega (arith, v.added, round_parts))
+        ]
+
+    -- and else as long as that and another over those before the line n
+    pub round_long : (answer also : GateLine → Bool → Type 0) → Answers answer test → Answers also test → (xs ys : List GateLine) → xs ≡ drop n ls → ys ≡ take n ls → (t u : ℕ)
+        → Walked answer xs t → Walked also ys u → cycle - start ls n ≤ t → t + u ≡ lasts (test (opened ls)) (start ls n) cycle
+    round_long answer also says too xs ys e f t u v w le =
+        let x = told answer says xs (drop n ls) e t v in
+        let y = told also too ys (take n ls) f u w in
+        let g : ℕ → Bool = test (opened ls) in
+        let b : GateLine → Bool = λ l. test (alone l) 0 in
+        let d = (along_split g b (drop n ls) (take n ls) (start ls n) round_along).0 in
+        let all : length (drop n ls) ≤ x.past =
+        elim (cases_lt x.past (length (drop n ls))) [
+          | inl here ↦ let a = along_at g b (drop n ls) (start ls n) x.past here d in absurd (omega (arith, x.added, a.1, round_parts))
+          | inr past ↦ past
+        ] in
+        round_walked (t + u) (walked_both Told (drop n ls) (take n ls) t u x y all)
 
 -- how long a class stays open with any limit, from how long it does within a cycle
 module _ (ls : List GateLine) (cycle : ℕ) (law : Lawful ls cycle) (k a n limit : ℕ) (h : n ≡ lasts (opened ls k) a cycle) where

@@ -1,7 +1,7 @@
 -- What a walk over gate lines asks of each tick. Assumes nothing.
-use Rattle.std.specs.Prelude.{◌≡◌, ℕ, ◌-◌, Bool, cond, nat_lt}
+use Rattle.std.specs.Prelude.{◌≡◌, ℕ, ◌-◌, ◌<◌, ◌≤◌, Bool, true, false, List, length, cond, nat_lt}
 use Rattle.gates.specs.declared.gate_line.GateLine.{GateLine}
-use Rattle.gates.specs.Opened.{shows}
+use Rattle.gates.specs.Opened.{shows, start, line}
 
 -- a test of gates and a tick that looks only at how the gates stand at the tick
 pub record AtTick (test : (ℕ → ℕ → Bool) → ℕ → Bool) : Type 0 where
@@ -18,3 +18,11 @@ Answers answer test = (l : GateLine) (b : Bool) → answer l b → b ≡ test (a
 -- the line before the line i of n: the last comes before the first
 abbrev pub previous : ℕ → ℕ → ℕ
 previous n i = cond (nat_lt 0 i) (i - 1) (n - 1)
+
+-- so many ticks go by in the lines up to the first of which no is answered, or in all of them
+pub record Walked (answer : GateLine → Bool → Type 0) (ls : List GateLine) (ticks : ℕ) : Type 0 where
+  pub past : ℕ
+  pub inside : past ≤ length ls
+  pub added : ticks ≡ start ls past
+  pub pass : (j : ℕ) → j < past → answer (line ls j) true
+  pub ends : past < length ls → answer (line ls past) false

@@ -23,9 +23,9 @@ pub(crate) struct FramesInSlots<'a> {
 impl<'a> Waits for FramesInSlots<'a> {
     ghost waits = { λ f k. (if any (λ t. covered f.plan.now.gates.cycle.0 f.slots.now t && opened f.plan.now.gates.lines.items k t) f.plan.now.gates.cycle.0 then longest (contents f.plan.now) k - 1 else 0) };
 
-    // All but a tick of its largest frame, if the class is open at a tick of the slots.
+    // All but a tick of its largest frame, if the class is open at a tick of the slots. Where there is no slot, no line is looked at.
     fn ticks(&self, class: u8) -> u64 {
-        if !self.open_in_slots(class) {
+        if self.slots.is_empty() || !self.open_in_slots(class) {
             return 0;
         }
         hold(self.plan, class).saturating_sub(1)

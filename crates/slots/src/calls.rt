@@ -8,8 +8,9 @@ ghost use Rattle.plan.specs.PlanContents.{contents};
 ghost use Rattle.slots.specs.OfPlan.{slots_of, sure_ticks_of, block_of};
 ghost use Rattle.slots.specs.Turns.{turns, Small, Refused};
 
-use crate::class_slots::ClassSlots;
+use crate::class_slots::{ClassSlots, total_length};
 use crate::find::find;
+use crate::slot_list::SlotList;
 use plan::Plan;
 use sure_ticks::Slot;
 use units::limits::MAX_SLOTS;
@@ -40,7 +41,8 @@ pub fn slots(plan: &Plan, class: u8, list: &mut [u32]) -> Result<usize, Refusal>
 pub fn sure(plan: &Plan, class: u8) -> Result<Ticks, Refusal>
     ensures { ByClass class result (λ n. n.0 ≡ sure_ticks_of (contents plan.now) class) }
 {
-    Ok(ClassSlots::of(plan, class)?.sure)
+    let found = SlotList::of(plan, class)?;
+    Ok(Ticks(total_length(found.as_slice())))
 }
 
 // The block of a class: how much of a lower frame can be on the wire when a busy period of the class begins. Refused where there is

@@ -43,7 +43,7 @@ impl ClassSlots {
 }
 
 // The lengths of slots, added.
-fn total_length(slots: &[Slot]) -> u64
+pub(crate) fn total_length(slots: &[Slot]) -> u64
     requires { lengths slots.now ≤ most_cycle }
     ensures { result ≡ lengths slots.now }
 {

@@ -1,11 +1,12 @@
 // A walk over the gate lines of a plan from the beginning of one of them: for how many ticks in a row a class is open, or clear. It
 // adds up the lengths of lines, and never looks at single ticks.
-ghost use Rattle.std.specs.Prelude.{◌≡◌, ℕ, ◌<◌, Bool, length};
+ghost use Rattle.std.specs.Prelude.{◌≡◌, ℕ, ◌<◌, ◌≤◌, Bool, length};
 ghost use Rattle.std.specs.Fn.{FnReturnsAt};
 ghost use Rattle.calculus.specs.Searches.{lasts};
-ghost use Rattle.gates.specs.Opened.{opened, start, line};
+ghost use Rattle.units.specs.Limits.{most_cycle};
+ghost use Rattle.gates.specs.Opened.{total, opened, start, line};
 ghost use Rattle.sure_ticks.specs.Runs.{clear};
-ghost use Rattle.slots.specs.Walks.{alone, previous, AtTick, Answers};
+ghost use Rattle.slots.specs.Walks.{alone, previous, AtTick, Answers, Walked};
 
 use gates::GateLine;
 use plan::Plan;
@@ -68,22 +69,36 @@ impl<'a> LineStart<'a> {
     }
 
     // How many ticks pass in a row from the line's beginning on, a cycle at the most: the lengths of the lines that pass, from this
-    // one to the last and then from the first on.
+    // one to the last and, if all of those pass, from the first on. In two walks, for speed: with the two parts of the list in a chain,
+    // finding the slots of a class took up to twice as long.
     fn lasting<F: Fn(&GateLine) -> bool>(&self, passes: F) -> u64
         requires { F.IsAlwaysCallable passes }
         ensures { (test : (ℕ → ℕ → Bool) → ℕ → Bool) → AtTick test → Answers (FnReturnsAt F.Fn passes) test
             → result ≡ lasts (test (opened self.now.plan.now.gates.lines.items)) self.now.tick self.now.plan.now.gates.cycle.0 }
     {
         let (before, rest) = self.plan.gates().lines().split_at(self.index);
-        let mut ticks = 0;
-        for line in rest.iter().chain(before.iter()) {
-            if !passes(line) {
-                return ticks;
-            }
-            ticks += line.length.0;
+        let first = walk(rest, &passes);
+        if first < self.cycle() - self.tick {
+            return first;
         }
-        ticks
+        first + walk(before, &passes)
     }
+}
+
+// How many ticks the lines take up to the first that does not pass, or all of them.
+fn walk<F: Fn(&GateLine) -> bool>(lines: &[GateLine], passes: F) -> u64
+    requires callable { F.IsAlwaysCallable passes }
+    requires short { total lines.now ≤ most_cycle }
+    ensures { Walked (FnReturnsAt F.Fn passes) lines.now result }
+{
+    let mut ticks = 0;
+    for line in lines {
+        if !passes(line) {
+            return ticks;
+        }
+        ticks += line.length.0;
+    }
+    ticks
 }
 
 // Whether the class is open in the line and every higher class is shut.

@@ -18,7 +18,7 @@ pub fn cut<'a>(text: &'a [u8], byte: u8) -> (&'a [u8], &'a [u8])
 pub fn count(text: &[u8], byte: u8) -> usize
     ensures { result ≡ how_many byte text.now }
 {
-    text.iter().filter(|x| **x == byte).count()
+    text.iter().map(|x| usize::from(*x == byte)).sum()
 }
 
 // Where `byte` first stands, if it does.

@@ -1,57 +1,49 @@
-use Rattle.std.proofs.Common.{true, false, List, length, vec_items, sym, ap, arith, below_more}
-use Rattle.std.specs.Fn.{FnReturnsAt}
-use Rattle.std.proofs.lemmas.List.{length_push}
+use Rattle.std.proofs.Common.{take, drop, vec_items, ap, ◌∙◌, arith}
 use Rattle.calculus.specs.Searches.{lasts}
-use Rattle.gates.specs.declared.gate_line.GateLine.{GateLine}
-use Rattle.gates.specs.Opened.{total, opened, start, line}
-use Rattle.gates.proofs.Lines.{start_next, start_more}
-use Rattle.slots.proofs.Walks.{round, round_turn, round_end, round_fits, round_stop, round_all}
+use Rattle.gates.specs.Opened.{total, opened}
+use Rattle.gates.proofs.Lines.{start_most}
+use Rattle.slots.proofs.Walks.{lines_same, round_parts, round_short, round_long}
 use Rattle.slots.proofs.walk.LineStart.lasting.Goals as goal
 
-pub loop-line-init : goal.loop-line-init
-unfolding total
-loop-line-init g c = record { added = omega arith; passed = λ j lt. absurd (omega arith) }
-
-pub returns-then-not-passes : goal.returns-then-not-passes
-returns-then-not-passes g c = λ test at answers.
+pub walk-first-requires-clause-short : goal.walk-first-requires-clause-short
+walk-first-requires-clause-short g c =
     let s = c.args.self.now in
-    let ls : List GateLine = vec_items s.plan.now.gates.lines in
-    let t = round_turn (vec_items s.plan.now.gates.lines) s.index _ (cc) (cc) (cc) (cc) c.loop-line.yielded _ _ c.loop-line.yielded_by _ c.in-Some.line c.in-Some.is c.next.ensures.steps in
-    let fails : FnReturnsAt g.F.Fn c.args.passes (line (round ls s.index) (length c.loop-line.yielded)) false = record { shown = c.in-Some.line; shows = t.1; says = record { met = c.if-not-passes.ensures } } in
-    let e = round_stop ls _ s.plan.now.gates.lawful s.index test at _ t.0 (λ j lt. sym (answers _ true (c.loop-line.invariant.passed j lt))) (sym (answers _ false fails)) in
-    let f = ap (λ a. lasts (test (opened ls)) a s.plan.now.gates.cycle.0) s.begun in
+    let e = c.split_at.ensures.back ∙ ap (drop s.index) (lines_same _ _ _ c.lines.ensures c.gates.ensures) in
+    omega (arith, ap total e, round_parts _ _ s.plan.now.gates.lawful s.index, s.plan.now.gates.lawful.most)
+
+pub overflow_sub-cycle : goal.overflow_sub-cycle
+overflow_sub-cycle g c = let s = c.args.self.now in omega (arith, s.begun, c.cycle.ensures, round_parts _ _ s.plan.now.gates.lawful s.index)
+
+pub returns-then-first-cycle : goal.returns-then-first-cycle
+returns-then-first-cycle g c = λ test at says.
+    let s = c.args.self.now in
+    let e = c.split_at.ensures.back ∙ ap (drop s.index) (lines_same _ _ _ c.lines.ensures c.gates.ensures) in
+    let f = ap (λ a. lasts (test (opened (vec_items s.plan.now.gates.lines))) a s.plan.now.gates.cycle.0) s.begun in
+    let r = round_short _ _ s.plan.now.gates.lawful s.index test at _ (λ l b a. says l b (record { shown = a.shown; shows = a.shows; says = record { met = a.says.met } })) _ e _ c.walk-first.ensures
+    (omega (arith, c.if-first-cycle.true, c.cycle.ensures, s.begun)) in
     cc
 
-pub overflow_add-ticks : goal.overflow_add-ticks
-overflow_add-ticks g c =
+pub walk-requires-clause-short : goal.walk-requires-clause-short
+walk-requires-clause-short g c =
     let s = c.args.self.now in
-    let t = round_turn (vec_items s.plan.now.gates.lines) s.index _ (cc) (cc) (cc) (cc) c.loop-line.yielded _ _ c.loop-line.yielded_by _ c.in-Some.line c.in-Some.is c.next.ensures.steps in
-    let m = ap (λ (l : GateLine). l.length.0) t.1 in
-    let n = start_next (round (vec_items s.plan.now.gates.lines) s.index) _ t.0 in
-    let f = round_fits _ _ s.plan.now.gates.lawful s.index _ t.0 in
-    omega (arith, c.loop-line.invariant.added, s.plan.now.gates.lawful.most)
+    let e = c.split_at.ensures.front ∙ ap (take s.index) (lines_same _ _ _ c.lines.ensures c.gates.ensures) in
+    omega (arith, ap total e, round_parts _ _ s.plan.now.gates.lawful s.index, s.plan.now.gates.lawful.most)
 
-pub loop-line-preserved : goal.loop-line-preserved
-loop-line-preserved g c =
+pub overflow_add-result : goal.overflow_add-result
+overflow_add-result g c =
     let s = c.args.self.now in
-    let ls : List GateLine = vec_items s.plan.now.gates.lines in
-    let t = round_turn (vec_items s.plan.now.gates.lines) s.index _ (cc) (cc) (cc) (cc) c.loop-line.yielded _ _ c.loop-line.yielded_by _ c.in-Some.line c.in-Some.is c.next.ensures.steps in
-    let m = ap (λ (l : GateLine). l.length.0) t.1 in
-    let n = start_more (round ls s.index) _ t.0 in
-    let p = length_push c.loop-line.yielded c.in-Some.line in
-    let q = ap (start (round ls s.index)) p in
-    record {
-      added = omega (arith, c.loop-line.invariant.added);
-      passed = λ j lt.
-          below_more (λ k. FnReturnsAt g.F.Fn c.args.passes (line (round ls s.index) k) true) (length c.loop-line.yielded) c.loop-line.invariant.passed
-          (record { shown = c.in-Some.line; shows = t.1; says = record { met = c.if-not-passes.ensures } }) j (omega (arith, p));
-    }
+    let e = c.split_at.ensures.back ∙ ap (drop s.index) (lines_same _ _ _ c.lines.ensures c.gates.ensures) in
+    let d = c.split_at.ensures.front ∙ ap (take s.index) (lines_same _ _ _ c.lines.ensures c.gates.ensures) in
+    let a = start_most c.split_at.result.1.now c.walk-first.ensures.past in
+    let b = start_most c.split_at.result.0.now c.walk.ensures.past in
+    omega (arith, c.walk-first.ensures.added, c.walk.ensures.added, ap total e, ap total d, round_parts _ _ s.plan.now.gates.lawful s.index, s.plan.now.gates.lawful.most)
 
 pub returns : goal.returns
-returns g c = λ test at answers.
+returns g c = λ test at says.
     let s = c.args.self.now in
-    let ls : List GateLine = vec_items s.plan.now.gates.lines in
-    let le = round_end ls s.index _ (cc) (cc) (cc) (cc) c.loop-line.yielded _ _ c.loop-line.yielded_by _ c.in-None.is c.next.ensures.steps in
-    let e = round_all ls _ s.plan.now.gates.lawful s.index test at _ le (λ j lt. sym (answers _ true (c.loop-line.invariant.passed j lt))) in
-    let f = ap (λ a. lasts (test (opened ls)) a s.plan.now.gates.cycle.0) s.begun in
+    let e = c.split_at.ensures.back ∙ ap (drop s.index) (lines_same _ _ _ c.lines.ensures c.gates.ensures) in
+    let d = c.split_at.ensures.front ∙ ap (take s.index) (lines_same _ _ _ c.lines.ensures c.gates.ensures) in
+    let f = ap (λ a. lasts (test (opened (vec_items s.plan.now.gates.lines))) a s.plan.now.gates.cycle.0) s.begun in
+    let r = round_long _ _ s.plan.now.gates.lawful s.index test at _ _ (λ l b a. says l b (record { shown = a.shown; shows = a.shows; says = record { met = a.says.met } })) (λ l b a. says l b (record { shown = a.shown; shows = a.shows; says = record { met = a.says.met } })) _ _ e d _ _ c.walk-first.ensures c.walk.ensures
+    (omega (arith, c.if-first-cycle.false, c.cycle.ensures, s.begun)) in
     cc
